@@ -16,10 +16,11 @@ mod steps;
 
 pub use namespace::Core;
 pub use ob_handles::{HandleTable, OpenTable};
-pub use ob_lookup::Cache;
+pub use ob_lookup::{Cache, RemovedName};
 pub use ob_model::{
     Bytes, Command, Entries, Given, Handles, Listed, Place, Reply, TypeName, Wanted,
 };
+pub use ob_objects::Named;
 pub use ob_opens::Started;
 pub use ob_slab_table::SlabTable;
 pub use ob_types::{Brought, Parsed, Parsing};

@@ -1,9 +1,10 @@
 //! The namespace: commands in, replies out.
 
-ghost use Rattle.std.specs.Prelude.{◌≡◌, ◌↔◌, length, not, true, false, IsTrue, IsOk, IfOk, IfErr, IfSome, IfNone, OnErr};
+ghost use Rattle.std.specs.Prelude.{◌≡◌, ◌==◌, ◌↔◌, length, not, true, false, IsTrue, IsOk, IfOk, IfErr, IfSome, IfNone, OnErr};
 ghost use Rattle.ob_base.specs.declared.Fault.TheVariants.{Memory};
 ghost use Rattle.ob_base.specs.declared.status.Status.TheVariants.{Success};
 ghost use Rattle.ob_model.specs.declared.reply.Event.TheVariants.{Start, Resume, Abandon};
+ghost use Rattle.std.specs.List.{find};
 ghost use Rattle.std.specs.Option.{is_some, option_and_then, option_map};
 ghost use Rattle.ob_base.specs.Handle.{key_of};
 ghost use Rattle.ob_model.specs.State.{body_of, handle_count, held_of, table_size};
@@ -19,6 +20,7 @@ ghost use Rattle.ob_model.specs.Sound.{IsSound};
 ghost use Rattle.ob_model.specs.Step.{Step};
 ghost use Rattle.ob_space.specs.Early.{TakesNoMemory, is_refused_early, lacks_handle};
 ghost use Rattle.ob_space.specs.Found.{IsRefusedAtFound};
+ghost use Rattle.ob_objects.specs.Named.{IsFirstFrom, row_of_named};
 ghost use Rattle.ob_opens.specs.Refusing.{IsBroughtRefused};
 ghost use Rattle.ob_model.specs.Refusals.{answers};
 ghost use Rattle.ob_types.specs.Parse.{asked_of};
@@ -31,8 +33,9 @@ use crate::steps::step_for;
 use ob_base::{Fault, Handle, ObjId, Proc};
 use ob_drains::{Drains, what_is_taken_is_unnoticed};
 use ob_handles::HandleTable;
-use ob_lookup::{Cache, CachedStore};
+use ob_lookup::{Cache, RemovedName};
 use ob_model::{Command, Held};
+use ob_objects::Named;
 use ob_opens::{Started, abandon, is_awaited, resume};
 use ob_processes::{PendingOpens, Processes};
 use ob_space::{Space, held_of, opening_store};
@@ -85,7 +88,7 @@ impl<T: TypeSet, H: HandleTable> Core<T, H> {
     {
         let mut processes = Processes::new(alloc);
         processes.start(Proc(1), None)?;
-        let store = CachedStore::new(opening_store(alloc)?, cache);
+        let store = opening_store(alloc, cache)?;
         let pending = PendingOpens::new(alloc);
         Ok(Core {
             space: Space {
@@ -357,6 +360,55 @@ impl<T: TypeSet, H: HandleTable> Core<T, H> {
         ensures { option_map body_lent result ≡ body_of self.now object }
     {
         referent_of(&self.space, object)
+    }
+
+    /// How many names there are, of all objects. Takes no memory, and a time that doesn't grow with them.
+    ///
+    /// Source: Windows Internals, Object Manager: object names.
+    pub fn names(&self) -> usize
+        ensures { result ≡ length self.now.rows }
+    {
+        self.space.store.names()
+    }
+
+    /// The name of an object, by its id, with its directory and stamp; None exactly where the object has no name. Takes no
+    /// memory.
+    ///
+    /// Source: Windows Internals, Object Manager: object names; the stamps are this profile.
+    pub fn name_of(&self, object: ObjId) -> Option<Named<'_>>
+        ensures { option_map row_of_named result ≡ find (λ row. row.object == object) self.now.rows }
+    {
+        self.space.store.name_of(object)
+    }
+
+    /// The least id of an object from this one on; None exactly where all objects have lesser ids. Ids rise as objects are
+    /// made, so a caller that begins with the next id after its last look finds those that were made since. Takes no
+    /// memory. Source: the ids are this profile.
+    pub fn first_from(&self, object: ObjId) -> Option<ObjId>
+        ensures { IsFirstFrom object self.now.objects result }
+    {
+        self.space.store.first_from(object)
+    }
+
+    /// Lists from now on the names that are removed, with none to begin with. It is no step. It takes no memory itself;
+    /// where there is none for a name that is removed, that one isn't listed. (this profile)
+    pub fn list_removed(&mut self)
+        ensures { self.new ≡ self.old }
+    {
+        self.space.store.list_removed(self.space.alloc);
+    }
+
+    /// The names that were removed since listing began or the list was cleared last: a hint for who keeps a copy of the
+    /// names, who sees by [`Core::names`] whether one is missing. (this profile)
+    pub fn removed(&self) -> &[RemovedName] {
+        self.space.store.removed()
+    }
+
+    /// Clears the list of removed names; where none is kept, nothing changes. Takes no memory. (this profile)
+    pub fn clear_removed(&mut self)
+        ensures { self.new ≡ self.old }
+    {
+        self.space.store.clear_removed();
     }
 
     /// The number that the next process gets, whichever makes it: above those of all that ever were. None

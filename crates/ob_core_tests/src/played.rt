@@ -97,6 +97,33 @@ fn is_recorded<T: Listing, H: HandleTable>(stage: &Stage<T, H>, line: &str, told
     }
 }
 
+/// The last byte of a name that a word says; 0 for a dot, which is none.
+fn letter_of(word: &str) -> u8 {
+    match word.as_bytes().first() {
+        Some(b'.') | None => 0,
+        Some(letter) => *letter,
+    }
+}
+
+/// Whether the names, the removed ones, or the first object from an id on, are as a line says.
+fn is_named<T: Listing, H: HandleTable>(stage: &Stage<T, H>, line: &str, told: &str) -> bool {
+    let (count, removed) = stage.names();
+    let (first, place) = (number_of(word_of(told, 0)), number_of(word_of(line, 2)));
+    let second = word_of(told, 1);
+    match word_of(line, 1) {
+        "names" => count == first as usize && removed.len() == number_of(second) as usize,
+        "removed" => removed.get(place as usize).is_some_and(|it| {
+            it.object.0 == u64::from(first) && it.stamp == u64::from(number_of(second))
+        }),
+        _ => {
+            let letter = letter_of(second);
+            let stamp = u64::from(number_of(word_of(told, 2)));
+            let directory = u64::from(number_of(word_of(told, 3)));
+            stage.first_from(place) == (u64::from(first), letter, stamp, directory)
+        }
+    }
+}
+
 /// Whether the step of a line, or what a line looks at, is as it says.
 fn is_so<T: Listing, H: HandleTable>(stage: &Stage<T, H>, line: &str, told: &str) -> bool {
     match word_of(line, 1) {
@@ -105,6 +132,7 @@ fn is_so<T: Listing, H: HandleTable>(stage: &Stage<T, H>, line: &str, told: &str
         "left" => is_counted(stage, told) && is_called(stage, told),
         "waits" => stage.left(word_of(line, 2)) == number_of(word_of(told, 0)),
         "calls" | "recorded" => is_recorded(stage, line, told),
+        "names" | "removed" | "from" => is_named(stage, line, told),
         "swap" => true,
         _ => is_told(stage, told),
     }

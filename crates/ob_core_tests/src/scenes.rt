@@ -22,9 +22,12 @@
 //! handle of a line leads to, and its id. `all waits` says how many reparses are left to the open of a ticket,
 //! `all counts` objects and handles, `all left` also the set's opens, closes and deletes, `all calls` so many calls of
 //! the set, from one on, and the serials of their objects, which go `up` or `down`, and `all recorded` how many there
-//! was room for, and how many not.
+//! was room for, and how many not. `all names` counts the names and those that were removed, `all removed` says which
+//! object and stamp the one at a place had, and `all from` which object is the first from an id on, with the last byte,
+//! the stamp and the directory of its name; `.` and 0 where there is none.
 
 mod doors;
+mod names;
 mod pages;
 mod permanence;
 mod processes;
@@ -79,6 +82,18 @@ pub(crate) const SCENES: &[Scenes] = &[
         accepts: MANY,
         room: MANY,
         text: pages::PAGES,
+    },
+    Scenes {
+        set: Set::Plain,
+        accepts: MANY,
+        room: MANY,
+        text: names::NAMES,
+    },
+    Scenes {
+        set: Set::Plain,
+        accepts: 1,
+        room: MANY,
+        text: names::REFUSED,
     },
     Scenes {
         set: Set::Plain,

@@ -51,7 +51,7 @@ impl Counts {
         }
     }
 
-    /// Makes room at once for so many objects more of which a count is kept. The only error is out of
+    /// Makes room at once for so many objects more of which a count is kept. The only error is want of
     /// memory. The counts stay, whatever the result. (this profile)
     pub fn reserve(&mut self, more: usize) -> Result<(), AllocError>
         ensures { self.new ≡ self.old }

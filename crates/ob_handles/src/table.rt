@@ -100,7 +100,7 @@ pub trait HandleTable: Sized + Drop + Send {
     fn opened_after(&self, order: u64) -> Option<Held>
         ensures { result ≡ find (λ h. nat_lt order h.order) (handles self.now) };
 
-    /// The handles that a child inherits, in the order in which they were opened. The only error is out
+    /// The handles that a child inherits, in the order in which they were opened. The only error is want
     /// of memory.
     fn inheritable(&self, alloc: Global) -> Result<Vec<Held>, AllocError>
         ensures { IfOk result (λ list. list.items ≡ filter (λ h. h.inherit) (handles self.now)) };

@@ -23,3 +23,4 @@ pub mod TakenCalls
 pub mod CallsOfRun
 pub mod Serials
 pub mod RecordedCalls
+pub mod Names

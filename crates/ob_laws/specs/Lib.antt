@@ -1,3 +1,4 @@
 pub mod CallsMade
 pub mod Recorded
 pub mod WholeRuns
+pub mod Names

@@ -9,6 +9,7 @@
 #![tactic(auto)]
 
 ghost use Rattle.ob_laws.specs.CallsMade.{CallsAreMade};
+ghost use Rattle.ob_laws.specs.Names.{NamesOnlyGo};
 ghost use Rattle.ob_laws.specs.Recorded.{RecordersHaveTheirCalls};
 ghost use Rattle.ob_laws.specs.WholeRuns.{Lifetimes, ScansAreWhole};
 
@@ -47,4 +48,13 @@ pub fn a_recorder_has_the_calls_of_its_run<K, T, F, I>()
 /// Source: ZwQueryDirectoryObject (Windows Driver Kit).
 pub fn scan_law<K, T, F, I>()
     ensures { ScansAreWhole K T F I }
+{}
+
+/// In each run names come with new objects alone, and a name that goes never comes again: each state has, of the objects
+/// that were made before an earlier state, no names but those that the earlier one had, and its names rise by the ids
+/// of their objects.
+///
+/// Source: Windows Internals, Object Manager (object names, object retention).
+pub fn names_only_go<K, T, F, I>()
+    ensures { NamesOnlyGo K T F I }
 {}

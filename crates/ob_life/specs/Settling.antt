@@ -1,4 +1,4 @@
--- Which objects stay, told from the names that stay; what settling makes of one object, and asks of a state; what was
+-- Which objects stay, given the names that stay; what settling makes of one object, and asks of a state; what was
 -- settled before one handle was closed; and what a process that ends leaves to be settled.
 use Rattle.std.specs.Prelude.{◌≡◌, ◌⊎◌, ℕ, ◌<◌, Bool, true, false, ◌&&◌, ◌||◌, ◌==◌, not, if◌then◌else◌, [], ◌∷◌, ◌++◌, filter, All, List, Option, None, Some, MatchOption}
 use Rattle.std.specs.List.{list_any, find}
@@ -18,7 +18,7 @@ use Rattle.ob_space.specs.Orderly.{IsIdleUnheld}
 abbrev pub is_shadow : {F I : Type 0} → List (Object F I) → ℕ → Bool
 is_shadow objects o = list_any (λ x. has_shadow o x.body) objects
 
--- by what is told of an object without a handle: it stays by its name, by what lies in it, as the root, as a map
+-- by the standing of an object without a handle: it stays by its name, by what lies in it, as the root, as a map
 -- directory, pinned by a pending open, or as the shadow of a directory that is there
 abbrev pub held_up_by : {K F I : Type 0} → List (Object F I) → Running → List (Pending K) → ℕ → Standing → Bool
 held_up_by objects running pending o standing =

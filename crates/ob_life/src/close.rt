@@ -12,7 +12,7 @@ use ob_space::Space;
 use ob_types::TypeSet;
 
 /// Closes a handle that its process holds: it goes, and the set's close is called for its object, and
-/// told how many handles to it are left in the process and in all. Nothing settles yet. No memory is
+/// given how many handles to it are left in the process and in all. Nothing settles yet. No memory is
 /// taken.
 ///
 /// It asks that the state is orderly, and sound, so that no two handles of a process have one value

@@ -1,8 +1,8 @@
 //! How processes begin and end, as changes of a namespace.
 //!
 //! A child begins with what it inherits of its parent: [`begin_child`]. A process that ends closes its
-//! handles, and lives no longer: [`end_process`]. Each is told by the state of the abstract machine
-//! that the namespace stands for. Nothing settles here: a command does so after the change.
+//! handles, and lives no longer: [`end_process`]. Each is specified over the state of the abstract machine
+//! that the namespace represents. Nothing settles here: a command does so after the change.
 #![tactic(auto)]
 
 mod child;

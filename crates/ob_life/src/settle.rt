@@ -1,11 +1,12 @@
 //! What stays at the end of a step.
 
 ghost use Rattle.std.specs.Prelude.{◌==◌, ◌≡◌, if◌then◌else◌, false, MatchOption};
-ghost use Rattle.std.specs.Option.{option_map_or};
+ghost use Rattle.std.specs.List.{find};
+ghost use Rattle.std.specs.Option.{option_and_then, option_map_or};
 ghost use Rattle.ob_model.specs.Settle.{settle, IsSettled, has_handle, is_mapped};
 ghost use Rattle.ob_objects.specs.Changes.{without_name};
 ghost use Rattle.ob_objects.specs.Standing.{standing_among};
-ghost use Rattle.ob_model.specs.State.{body_of, shadow_of};
+ghost use Rattle.ob_model.specs.State.{body_of, shadow_in};
 ghost use Rattle.ob_objects.specs.Store.{objects_of};
 ghost use Rattle.ob_space.specs.Namespace.{running_alone, handles_alone};
 ghost use Rattle.ob_space.specs.Orderly.{IsOrderly, IsIdleBody};
@@ -24,7 +25,7 @@ use ob_types::TypeSet;
 /// Settles after an object has lost a handle, or is a process's map directory no longer: an object that
 /// is neither permanent nor has a handle loses its name, and goes if it holds no names that stay, no open
 /// is pending at it and it is no map directory; and then the directory of that name goes, if nothing holds it now. The
-/// shadows of those that went go then, if nothing holds them. The set is told of each
+/// shadows of those that went go then, if nothing holds them. The set's delete is called for each
 /// object of its own that goes, the object first. The root and `\GLOBAL??` stay always.
 ///
 /// It asks that the state is orderly and its shadows are fit, and that with one handle more to the object it is settled, so that
@@ -51,7 +52,7 @@ pub fn settle_after_loss<T: TypeSet, H: HandleTable>(space: &mut Space<T, H>, ob
     settle_closed(space, object, &standing);
 }
 
-/// Settles one object that has no handle, by what the store told of it, and then the directory of its name, and the shadows
+/// Settles one object that has no handle, by its standing, and then the directory of its name, and the shadows
 /// of both where they went.
 fn settle_closed<T: TypeSet, H: HandleTable>(
     space: &mut Space<T, H>,
@@ -63,7 +64,7 @@ fn settle_closed<T: TypeSet, H: HandleTable>(
     requires told { standing.now ≡ standing_among space.old.objects space.old.rows object }
     ensures { AreSettled T.procedures space.old (λ o. o == object) object space.new }
 {
-    // The length tells what holds of every store.
+    // The contract of the length gives the invariant of every store.
     let _ = space.store.len();
     let place = standing.place;
     let own = settle_unheld(space, object, standing);
@@ -109,7 +110,7 @@ fn settle_other<T: TypeSet, H: HandleTable>(
 /// Settles after a process has ended: of the objects that its handles led to, each that is neither
 /// permanent nor has a handle now loses its name, and goes if it holds no names that stay, no open is
 /// pending at it and it is no map directory; and then the directory of that name goes, if nothing holds it now. The directory of the
-/// process's device map goes in the same way. The set is told of each object of its own that goes, from
+/// process's device map goes in the same way. The set's delete is called for each object of its own that goes, from
 /// the highest number down. The root and `\GLOBAL??` stay always.
 ///
 /// It asks that the state is orderly and sound, and that nothing else can go but a directory by the
@@ -156,7 +157,7 @@ fn settle_in_turn<T: TypeSet, H: HandleTable>(space: &mut Space<T, H>, touched: 
     }
 }
 
-/// Settles one object that has no handle, by what the store told of it, and then the directory of its name, unless that has
+/// Settles one object that has no handle, by its standing, and then the directory of its name, unless that has
 /// its own turn.
 fn settle_named<T: TypeSet, H: HandleTable>(
     space: &mut Space<T, H>,
@@ -169,7 +170,7 @@ fn settle_named<T: TypeSet, H: HandleTable>(
     requires told { standing.now ≡ standing_among space.old.objects space.old.rows id }
     ensures { AreSettled T.procedures space.old (is_listed touched.now) id space.new }
 {
-    // The length tells what holds of every store.
+    // The contract of the length gives the invariant of every store.
     let _ = space.store.len();
     let place = standing.place;
     let own = settle_unheld(space, id, standing);
@@ -228,7 +229,7 @@ fn settle_one<T: TypeSet, H: HandleTable>(space: &mut Space<T, H>, id: ObjId) ->
     settle_unheld(space, id, &standing)
 }
 
-/// Settles one object that has no handle, by what the store told of it. It gives the shadow of the object, where that went
+/// Settles one object that has no handle, by its standing. It gives the shadow of the object, where that went
 /// and is a directory that has one.
 fn settle_unheld<T: TypeSet, H: HandleTable>(
     space: &mut Space<T, H>,
@@ -241,15 +242,13 @@ fn settle_unheld<T: TypeSet, H: HandleTable>(
     ensures settled { space.new ≡ settled_one T.procedures space.old id }
     ensures shadow { result ≡ shadow_left space.old id }
 {
-    // The length tells what holds of every store.
+    // The contract of the length gives the invariant of every store.
     let _ = space.store.len();
     forget_unkept(&mut space.store, standing);
     if is_held_up(&space.store, &space.processes, &space.pending, id, standing) {
         return None;
     }
-    let shadow = space.store.shadow_of(id);
-    delete_object(space, id);
-    shadow
+    delete_object(space, id)
 }
 
 /// Takes away the name of an object that has no handle, unless it is permanent.
@@ -266,17 +265,23 @@ fn forget_unkept<T: TypeSet>(store: &mut CachedStore<T>, standing: &Standing)
     }
 }
 
-/// Takes away and deletes an object, where it is there, with what lies in it.
-fn delete_object<T: TypeSet, H: HandleTable>(space: &mut Space<T, H>, id: ObjId)
+/// Takes away and deletes an object, where it is there, with what lies in it. It gives its shadow, where it is a directory
+/// that has one.
+fn delete_object<T: TypeSet, H: HandleTable>(space: &mut Space<T, H>, id: ObjId) -> Option<ObjId>
     requires { MatchOption (body_of space.old id) (Unit {0}) (IsIdleBody T.idle) }
-    ensures { space.new ≡ without_object T.procedures space.old id }
+    ensures gone { space.new ≡ without_object T.procedures space.old id }
+    ensures shadow { result ≡ option_and_then (λ object. shadow_in object.body)
+        (find (λ object. object.id == id) space.old.objects) }
 {
-    if let Some(stored) = space.store.remove(id) {
-        delete_body(&mut space.set, stored.body);
-    }
+    let Some(stored) = space.store.remove(id) else {
+        return None;
+    };
+    let shadow = stored.body.shadow();
+    delete_body(&mut space.set, stored.body);
+    shadow
 }
 
-/// Whether an object that has no handle stays, by what the store told of it.
+/// Whether an object that has no handle stays, by its standing.
 fn is_held_up<T: TypeSet, H: HandleTable>(
     store: &CachedStore<T>,
     processes: &Processes<H>,

@@ -2,3 +2,4 @@ pub mod Lines
 pub mod Grammar
 pub mod Changes
 pub mod Script
+pub mod Misfits

@@ -8,6 +8,7 @@
 
 mod change;
 mod form;
+mod misfit;
 mod pending;
 mod request;
 mod script;
@@ -15,9 +16,10 @@ mod verb;
 
 pub use change::{Change, change_of};
 pub use form::{Form, LONGEST_LINE, form_of, is_idle, lines_have_one_form};
+pub use misfit::{Expected, Misfit, lines_have_one_misfit, misfit_of};
 pub use ob_parts::{
-    HandleForm, KindForm, NameForm, Offset, PageMode, PlaceForm, decode, offset_value,
-    texts_spell_one_thing,
+    HandleForm, KindForm, LastForm, NameForm, Offset, PageMode, PartForm, PlaceForm, decode,
+    offset_value, texts_spell_one_thing,
 };
 pub use pending::PendingForm;
 pub use request::Request;

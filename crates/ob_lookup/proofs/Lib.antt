@@ -11,3 +11,4 @@ pub mod Begins
 pub mod Stays
 pub mod Staying
 pub mod Changing
+pub mod Counted

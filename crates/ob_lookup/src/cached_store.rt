@@ -1,6 +1,6 @@
 //! A store with a cache of the prefixes that lead in it.
 
-ghost use Rattle.std.specs.Prelude.{◌≡◌, ◌≢◌, ◌<◌, ◌==◌, [], length, None, Some};
+ghost use Rattle.std.specs.Prelude.{◌≡◌, ◌≢◌, ◌<◌, ◌+◌, ◌==◌, [], length, None, Some};
 ghost use Rattle.std.specs.Prelude.{All, IsOk, IsSome, IfOk, IfErr, OnErr, false};
 ghost use Rattle.std.specs.List.{find, list_any};
 ghost use Rattle.std.specs.Option.{is_some, option_and_then, option_copied, option_map, option_map_or};
@@ -9,7 +9,7 @@ ghost use Rattle.ob_model.specs.Settle.{has_shadow};
 ghost use Rattle.ob_model.specs.State.{State, is_directory_body, shadow_in};
 ghost use Rattle.ob_objects.specs.Store.{IsStore, Shows, stored_at, directory_of, directory_at, entries_in, entries_at, place_at, objects_of, rows_of};
 ghost use Rattle.ob_objects.specs.Listing.{page_given};
-ghost use Rattle.ob_objects.specs.Named.{row_of_named};
+ghost use Rattle.ob_objects.specs.Named.{row_of_named, IsFirstFrom};
 ghost use Rattle.ob_objects.specs.Standing.{standing_at};
 ghost use Rattle.ob_objects.specs.Changes.{with_entry, without_object, with_name, without_name, with_permanence};
 ghost use Rattle.ob_objects.specs.Changes.{
@@ -24,6 +24,7 @@ ghost use Rattle.ob_lookup.specs.Look.{look_of, LooksUpIn, NameMayWantMemory};
 
 use crate::cache::Cache;
 use crate::cached::look_cached;
+use crate::removals::{Removals, RemovedName};
 use crate::terms::Look;
 use ob_base::ObjId;
 use ob_devmap::View;
@@ -49,27 +50,69 @@ use std::marker::Model;
 pub struct CachedStore<T: TypeSet> {
     store: Store<T>,
     cache: Cache,
+    // How many names there are.
+    names: usize,
+    removed: Removals,
 }
 
 impl<T: TypeSet> Model for CachedStore<T> {
     ghost use Rattle.ob_objects.specs.Store.{Entries};
+    ghost use Rattle.std.specs.Prelude.{◌≡◌, length};
+    ghost use Rattle.ob_objects.specs.Store.{rows_of};
     ghost use Rattle.ob_lookup.specs.Cache.{ArePaths};
 
     ghost Value = { Entries T.Face T.Inner };
 
     ghost view = { λ a. a.store };
 
-    ghost invariant = { λ a. ArePaths T.Kind T T.Face T.Inner a.store a.cache };
+    ghost invariant = { λ a. ArePaths T.Kind T T.Face T.Inner a.store a.cache × (a.names ≡ length (rows_of a.store)) };
 }
 
 impl<T: TypeSet> CachedStore<T> {
-    /// A store with a cache, which is emptied first: what it kept may lead elsewhere here. Takes no memory. (this profile)
-    pub fn new(store: Store<T>, cache: Cache) -> CachedStore<T>
-        ensures { result ≡ store }
+    /// A store with no object, and a cache, which is emptied first: what it kept may lead elsewhere here. Takes no
+    /// memory. (this profile)
+    pub fn new(alloc: Global, cache: Cache) -> CachedStore<T>
+        ensures { result ≡ [] }
     {
         let mut cache = cache;
         cache.clear();
-        CachedStore { store, cache }
+        CachedStore {
+            store: Store::new(alloc),
+            cache,
+            names: 0,
+            removed: Removals::unlisted(),
+        }
+    }
+
+    /// How many names there are, of all objects. Takes no memory, and a time that doesn't grow with them.
+    ///
+    /// Source: Windows Internals, Object Manager: object names.
+    pub fn names(&self) -> usize
+        ensures { result ≡ length (rows_of self.now) }
+    {
+        self.names
+    }
+
+    /// Lists from now on the names that are removed, with none to begin with. It takes no memory itself; where there is
+    /// none for a name that is removed, that one isn't listed. (this profile)
+    pub fn list_removed(&mut self, alloc: Global)
+        ensures { self.new ≡ self.old }
+    {
+        self.removed = Removals::listed(alloc);
+    }
+
+    /// The names that were removed since listing began or the list was cleared last: a hint for who keeps a copy of the
+    /// names, who can see by [`CachedStore::names`] whether one is missing. No name is listed that is still there, but
+    /// for one that was put back. (this profile)
+    pub fn removed(&self) -> &[RemovedName] {
+        self.removed.names()
+    }
+
+    /// Clears the list of removed names; where none is kept, nothing changes. Takes no memory. (this profile)
+    pub fn clear_removed(&mut self)
+        ensures { self.new ≡ self.old }
+    {
+        self.removed.clear();
     }
 
     /// Looks a name up in the store as `look` does, by the cache: see [`look_cached`]. The store stays as it is.
@@ -212,6 +255,14 @@ impl<T: TypeSet> CachedStore<T> {
         self.store.standing_of(id)
     }
 
+    /// The least id of an object from this one on; `None` exactly where all objects have lesser ids. Takes no memory.
+    /// Source: the ids are this profile.
+    pub fn first_from(&self, id: ObjId) -> Option<ObjId>
+        ensures { IsFirstFrom id (objects_of self.now) result }
+    {
+        self.store.first_from(id)
+    }
+
     /// A page of a directory, as [`Store::page`] gives it. The only fault is out of memory, which a page that shows
     /// none doesn't take.
     ///
@@ -273,6 +324,7 @@ impl<T: TypeSet> CachedStore<T> {
         // The contract of the length gives the invariant of every store.
         let _ = self.store.len();
         let stored = self.store.remove(id);
+        self.names -= names_in(&stored);
         if is_directory(&stored) {
             self.cache.clear();
         }
@@ -300,9 +352,11 @@ impl<T: TypeSet> CachedStore<T> {
             (record { stamp = stamp; name = name; object = object })) }
         ensures unchanged { OnErr result (self.new ≡ self.old) }
     {
+        let names = one_more(self.names)?;
         // The contract of the length gives the invariant of every store.
         let _ = self.store.len();
         self.store.insert_name(directory, stamp, name, object)?;
+        self.names = names;
         let _ = self.store.len();
         if self.cache.may_be_local() || self.store.shadow_of(directory).is_some() {
             self.cache.clear();
@@ -325,6 +379,8 @@ impl<T: TypeSet> CachedStore<T> {
             let _ = self.store.len();
             return false;
         };
+        self.names -= 1;
+        self.removed.list(object, stamp);
         let _ = self.store.len();
         if self.store.is_directory(object) {
             self.cache.clear();
@@ -371,6 +427,28 @@ impl<T: TypeSet> CachedStore<T> {
             ≡ set_after_close T.procedures self.old set.old id process_left system_left }
     {
         self.store.close(id, set, process_left, system_left);
+    }
+}
+
+/// A count of names with one more. The only fault is that it has no place for it, as of memory.
+fn one_more(names: usize) -> Result<usize, AllocError>
+    ensures { IfOk result (λ more. more ≡ names + 1) }
+{
+    names.checked_add(1).ok_or(AllocError)
+}
+
+/// How many names lie in an object that was taken out: none where there was none.
+fn names_in<F, I>(taken: &Option<StoredObject<F, I>>) -> usize
+    ensures { result ≡ option_map_or (λ stored. length (entries_in stored.body)) taken.now 0 }
+{
+    match taken {
+        Some(
+            StoredObject {
+                body: StoredBody::Directory(entries, _),
+                ..
+            },
+        ) => entries.len(),
+        _ => 0,
     }
 }
 

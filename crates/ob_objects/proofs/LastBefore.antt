@@ -1,17 +1,18 @@
--- The object of greatest id below a bound, told from what a map has at each key.
-use Rattle.std.proofs.Common.{◌≡◌, ◌∙◌, ℕ, ◌≤◌, ◌<◌, ◌==◌, Bool, true, false, cond, nat_le, List, [], ◌∷◌, find, Option, None, Some, option_map, All, IsSome, refl, ap, sym, subst, arith, leb-true, leb-false, eq-eqb}
+-- The object of greatest id below a bound, and that of least id from one on, by what a map has at each key.
+use Rattle.std.proofs.Common.{◌≡◌, ◌∙◌, ℕ, ◌≤◌, ◌<◌, ◌==◌, Bool, true, false, cond, nat_le, List, [], ◌∷◌, find, Option, None, Some, option_map, All, IsSome, IfSome, slice_get, refl, ap, sym, subst, arith, leb-true, leb-false, eq-eqb}
 use Rattle.std.proofs.lemmas.Bool.{false≢true}
 use Rattle.std.proofs.lemmas.Bool.Decides.{nat_tests}
 use Rattle.std.proofs.lemmas.List.Elements.{All-nil, All-cons, All-weaker}
 use Rattle.std.specs.declared.cmp.Ordering.TheVariants.{Less}
 use Rattle.std.specs.BTreeMap.{is_at}
+use Rattle.std.specs.BTreeMap.Range.{IsLeBy}
 use Rattle.std.specs.Map.{lookup}
 use Rattle.std.specs.Option.{is_some}
 use Rattle.std.specs.Ordering.{nat_cmp, is_lt}
 use Rattle.ob_model.specs.declared.state.Object.{Object}
 use Rattle.ob_model.specs.Procedures.{Procedures}
 use Rattle.ob_objects.specs.declared.object.StoredObject.{StoredObject}
-use Rattle.ob_objects.specs.Named.{IsLastBefore}
+use Rattle.ob_objects.specs.Named.{IsLastBefore, IsFirstFrom}
 use Rattle.ob_objects.specs.Store.{Entries, stored_at, object_of_stored, objects_of}
 use Rattle.ob_objects.specs.Types.{Types, KeepsTypes, type_of_body}
 use Rattle.ob_objects.proofs.Shown.{find_object}
@@ -38,6 +39,16 @@ less_is a b less = grind (arith, nat_tests)
 
 less_means : (a b : ℕ) → nat_cmp a b ≡ Less → a < b
 less_means a b e = grind (arith, nat_tests)
+
+le_is : (a b : ℕ) → a ≤ b → IsLeBy nat_cmp a b
+le_is a b le = grind (arith, nat_tests)
+
+le_means : (a b : ℕ) → IsLeBy nat_cmp a b → a ≤ b
+le_means a b e = grind (arith, nat_tests)
+
+-- what holds of the first of a list, where that is known
+pub first_of : {X : Type 0} (P : X → Type 0) (xs : List X) (x : X) (more : List X) → xs ≡ x ∷ more → IfSome (slice_get xs 0) P → P x
+first_of P xs x more is = subst (λ ys. IfSome (slice_get ys 0) P) is
 
 is_some_mapped : {X Y : Type 0} (f : X → Y) (o : Option X) → is_some (option_map f o) ≡ is_some o
 is_some_mapped f None = refl
@@ -76,4 +87,23 @@ module _ {F I Y : Type 0} (kept : List (ℕ × Y)) (now : Entries F I) (stand : 
     subst (λ (n : ℕ). last < n) is_id (less_means last key below),
     All-weaker (λ (o : Object F I). is_some (stored_at now o.id) ≡ true) (λ (o : Object F I). o.id < id → o.id ≤ last)
         (λ o at less. not_before last o.id (greatest o.id (less_is o.id key (subst (λ (n : ℕ). o.id < n) (sym is_id) less)) (stand o.id ∙ at))) (objects_of now) there,
+  )
+
+  pub none_from : ((q : ℕ) → IsLeBy nat_cmp key q → lookup (is_at (nat_cmp q)) kept ≡ None) → IsFirstFrom id (objects_of now) None
+  none_from none =
+      All-weaker (λ (o : Object F I). is_some (stored_at now o.id) ≡ true) (λ (o : Object F I). o.id < id) (λ o found. go o found (nat_le id o.id) refl) (objects_of now) there
+    where
+      go : (o : Object F I) → is_some (stored_at now o.id) ≡ true → (t : Bool) → nat_le id o.id ≡ t → o.id < id
+      go o found false e = leb-false id o.id e
+      go o found true e =
+          let from : key ≤ o.id = omega (arith, leb-true id o.id e, is_id) in
+          absurd (false≢true (sym (sym (stand o.id) ∙ ap is_some (none o.id (le_is key o.id from))) ∙ found))
+
+  pub one_from : (first : ℕ) (x : Y) → lookup (is_at (nat_cmp first)) kept ≡ Some x → IsLeBy nat_cmp key first
+      → ((q : ℕ) → IsLeBy nat_cmp key q → IsSome (lookup (is_at (nat_cmp q)) kept) → IsLeBy nat_cmp first q) → IsFirstFrom id (objects_of now) (Some first)
+  one_from first x found from least = (
+    any_found (λ (o : Object F I). o.id == first) (objects_of now) ∙ ap is_some (find_object now first) ∙ is_some_mapped (object_of_stored first) (stored_at now first) ∙ sym (stand first) ∙ ap is_some found,
+    subst (λ (n : ℕ). n ≤ first) is_id (le_means key first from),
+    All-weaker (λ (o : Object F I). is_some (stored_at now o.id) ≡ true) (λ (o : Object F I). id ≤ o.id → first ≤ o.id)
+        (λ o at more. le_means first o.id (least o.id (le_is key o.id (subst (λ (n : ℕ). n ≤ o.id) (sym is_id) more)) (stand o.id ∙ at))) (objects_of now) there,
   )

@@ -7,6 +7,7 @@ pub mod Bodies
 pub mod Shown
 pub mod Searches
 pub mod Stands
+pub mod RowCounts
 pub mod LastBefore
 pub mod Follow
 pub mod Told

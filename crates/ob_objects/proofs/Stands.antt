@@ -57,7 +57,7 @@ among_kept keeps r (q ∷ rows) among = go (keeps q) among (among_kept keeps r r
     go true (inr among) more = inr (more among)
     go false among more = inr (more among)
 
-All_among : (P : Row → Type 0) (r : Row) (rows : List Row) → All P rows → Among r rows → P r
+pub All_among : (P : Row → Type 0) (r : Row) (rows : List Row) → All P rows → Among r rows → P r
 All_among P r [] all among = absurd among
 All_among P r (q ∷ rows) all (inl same) = subst P (sym same) (All-head P q rows all)
 All_among P r (q ∷ rows) all (inr among) = All_among P r rows (All-tail P q rows all) among
@@ -136,7 +136,7 @@ entry_of_row d (e ∷ es) r is (inr among) =
         All-cons (λ q. e.stamp < q.stamp) (row_of d x) (map (row_of d) xs) ((All-head (ComesBefore e) x xs all).0) (behind xs (All-tail (ComesBefore e) x xs all))
 
 -- the row of an entry that is found, and the only one of its stamp
-entry_among : (test : DirEntry → Bool) (d : ℕ) (es : List DirEntry) (e : DirEntry) → find test es ≡ Some e → Among (row_of d e) (map (row_of d) es) × (test e ≡ true)
+pub entry_among : (test : DirEntry → Bool) (d : ℕ) (es : List DirEntry) (e : DirEntry) → find test es ≡ Some e → Among (row_of d e) (map (row_of d) es) × (test e ≡ true)
 entry_among test d [] e found = cc
 entry_among test d (x ∷ es) e found = go (test x) refl found (entry_among test d es e)
   where
@@ -199,6 +199,11 @@ pub is_mapped_some : {X Y : Type 0} (f : X → Y) (o : Option X) → is_some (op
 is_mapped_some f None = refl
 is_mapped_some f (Some x) = refl
 
+-- the row of an entry that is found by its stamp is at that stamp
+pub stands_there : (d stamp : ℕ) (es : List DirEntry) (e : DirEntry) → find (λ x. x.stamp == stamp) es ≡ Some e → stands_at d stamp (row_of d e) ≡ true
+stands_there d stamp es e found =
+    ap (λ t. t && (e.stamp == stamp)) (eq-eqb d d refl) ∙ (entry_among (λ x. x.stamp == stamp) d es e found).1
+
 module _ {F I : Type 0} (store : Entries F I) (is : IsStore store) where
   entries_dir : (d : ℕ) → IsDir (entries_at store d)
   entries_dir d = entries_at-is_dir store d is.directories
@@ -222,12 +227,12 @@ module _ {F I : Type 0} (store : Entries F I) (is : IsStore store) where
       ap (option_map (row_of p.directory)) (found ∙ ap (find (λ e. e.stamp == p.stamp)) are) ∙ named_at id p at
 
   -- the row of an entry of a directory is a row of the store
-  row_among : (d : ℕ) (e : DirEntry) → Among (row_of d e) (map (row_of d) (entries_at store d)) → Among (row_of d e) (rows_of store)
+  pub row_among : (d : ℕ) (e : DirEntry) → Among (row_of d e) (map (row_of d) (entries_at store d)) → Among (row_of d e) (rows_of store)
   row_among d e among = among_kept (λ q. q.directory == d) (row_of d e) (rows_of store) (subst (Among (row_of d e)) (sym (rows_are_entries store is d)) among)
 
   -- ---- a name goes
 
-  gone_row : (d stamp : ℕ) (e : DirEntry) → find (λ x. x.stamp == stamp) (entries_at store d) ≡ Some e → All (λ q. stands_at d stamp q ≡ true → q ≡ row_of d e) (rows_of store)
+  pub gone_row : (d stamp : ℕ) (e : DirEntry) → find (λ x. x.stamp == stamp) (entries_at store d) ≡ Some e → All (λ q. stands_at d stamp q ≡ true → q ≡ row_of d e) (rows_of store)
   gone_row d stamp e found =
       all_both (λ q. q.directory == d) (λ q. q.stamp == stamp) (λ q. q ≡ row_of d e) (rows_of store)
       (subst (All (λ q. (q.stamp == stamp) ≡ true → q ≡ row_of d e)) (sym (rows_are_entries store is d)) (one_of_stamp d stamp (entries_at store d) e (entries_dir d) found))
@@ -241,7 +246,7 @@ module _ {F I : Type 0} (store : Entries F I) (is : IsStore store) where
       at = entry_among (λ x. x.stamp == stamp) d (entries_at store d) e found
 
       stands : stands_at d stamp (row_of d e) ≡ true
-      stands = ap (λ t. t && (e.stamp == stamp)) (eq-eqb d d refl) ∙ at.1
+      stands = stands_there d stamp (entries_at store d) e found
 
       go : (t : Bool) → (e.object == id) ≡ t
           → option_map place_of (find (λ r. r.object == id) (filter (λ r. not (stands_at d stamp r)) (rows_of store))) ≡ cond t None (place_at store id)

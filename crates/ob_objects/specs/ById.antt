@@ -1,4 +1,4 @@
--- What stands under ids, in any order, seen by rising ids.
+-- Entries under ids, in any order, seen by rising ids.
 --
 -- Source: this profile.
 use Rattle.std.specs.Prelude.{ℕ, List, [], ◌∷◌, Option}

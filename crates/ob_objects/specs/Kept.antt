@@ -1,4 +1,4 @@
--- What a store keeps of its objects beside them: where the names for them stand, and their types.
+-- What a store keeps of its objects beside them: where the names for them are, and their types.
 --
 -- Source: this profile.
 use Rattle.std.specs.Prelude.{◌≡◌, ℕ, Option}
@@ -10,7 +10,7 @@ use Rattle.ob_objects.specs.Store.{Entries, IsStore, place_at}
 use Rattle.ob_objects.specs.Types.{Types, KeepsTypes}
 
 module _ {F I : Type 0} where
-  -- what holds of a store beside the places that it keeps: for each object that where its name stands
+  -- what holds of a store beside the places that it keeps: for each object that where its name is
   pub record KeepsPlaces (store : Entries F I) (kept : ℕ → Option EntryPlace) : Type 0 where
     pub is_store : IsStore store
     pub places : (id : ℕ) → kept id ≡ place_at store id

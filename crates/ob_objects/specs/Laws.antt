@@ -98,7 +98,7 @@ module _ (F I : Type 0) where
   abbrev pub IdsRise : Type 0
   IdsRise = (store : Entries F I) → IsStore store → AllPairs (λ a b. a.id < b.id) (objects_of store)
 
-  -- a further object stands in order of ids, and one that is taken out goes alone
+  -- a further object is put in order of ids, and one that is taken out goes alone
   abbrev pub NewObjectStandsInOrder : Type 0
   NewObjectStandsInOrder =
       (store : Entries F I) (id : ℕ) (x : StoredObject F I)
@@ -153,7 +153,7 @@ module _ (F I : Type 0) where
   abbrev pub RowsAreByStamp : Type 0
   RowsAreByStamp = (store : Entries F I) → AreByStamp (rows_of store)
 
-  -- of the rows of a store, those that stand in a directory are its entries, in their order
+  -- of the rows of a store, those that are in a directory are its entries, in their order
   abbrev pub RowsAreTheEntries : Type 0
   RowsAreTheEntries = (store : Entries F I) → IsStore store → (directory : ℕ) → AreEntries (rows_of store) directory (entries_at store directory)
 
@@ -163,7 +163,7 @@ module _ (F I : Type 0) where
       (store : Entries F I) (id : ℕ) (x : StoredObject F I) → entries_in x.body ≡ []
       → rows_of (with_entry store id x) ≡ rows_of store
 
-  -- with an object go the rows that stand in it, and no others
+  -- with an object go the rows that are in it, and no others
   abbrev pub RowsGoWithTheirDirectory : Type 0
   RowsGoWithTheirDirectory =
       (store : Entries F I) (id : ℕ) → rows_of (without_object store id) ≡ filter (λ r. not (r.directory == id)) (rows_of store)

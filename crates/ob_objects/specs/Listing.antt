@@ -21,6 +21,6 @@ module _ {K T F I : Type 0} (g : Procedures K T F I) where
   abbrev pub type_name_at : Entries F I → ℕ → List ℕ
   type_name_at store id = option_map_or (λ x. body_type_name g (body_of_stored x.body)) (stored_at store id) []
 
-  -- an entry of a directory as a store tells it
+  -- an entry of a directory as a store gives it
   abbrev pub entry_listed : Entries F I → DirEntry → Listed
   entry_listed store e = record { name = e.name; type_name = type_name_at store e.object }

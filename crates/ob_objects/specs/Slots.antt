@@ -1,4 +1,4 @@
--- What is kept under ids: objects, and where the names for them stand.
+-- Slots under ids: objects, and where the names for them are.
 --
 -- Source: this profile.
 use Rattle.std.specs.Prelude.{◌≡◌, ℕ, ◌==◌, nat_eq, if◌then◌else◌, List, Option, None, Some, IsSome, OnSome, slice_get}
@@ -18,7 +18,7 @@ use Rattle.ob_objects.specs.contracts.slots.Slots.{the_row}
 use Rattle.ob_objects.specs.ById.{by_id, parts}
 use Rattle.ob_objects.specs.Store.{Entries}
 
--- where what is under an id stands: at this place of the list, and it is what is found there; none where nothing is
+-- where what is under an id is: at this place of the list, and it is what is found there; none where nothing is
 abbrev pub IsPlaceOf : {X : Type 0} → ℕ → List (ℕ × X) → Option ℕ → Type 0
 IsPlaceOf id entries None = lookup (nat_eq id) entries ≡ None
 IsPlaceOf {X} id entries (Some place) = (x : X) × (slice_get entries place ≡ Some (id, x)) × (lookup (nat_eq id) entries ≡ Some x)
@@ -28,7 +28,7 @@ module _ {F I : Type 0} where
   abbrev pub objects_in : Slots F I → Entries F I
   objects_in slots = parts (λ slot. slot.object) (by_id slots.map.entries)
 
-  -- the object of an id, and where the name for it stands
+  -- the object of an id, and where the name for it is
   abbrev pub object_in : Slots F I → ℕ → Option (StoredObject F I)
   object_in slots id = option_and_then (λ slot. slot.object) (get nat_eq slots.map id)
 

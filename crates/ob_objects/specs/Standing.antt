@@ -1,4 +1,4 @@
--- What of an object tells whether it stays.
+-- What decides whether an object stays.
 --
 -- Source: Windows Internals, Object Manager (object retention; temporary and permanent objects).
 use Rattle.std.specs.Prelude.{ℕ, ◌==◌, List, false}
@@ -11,7 +11,7 @@ use Rattle.ob_objects.specs.Named.{place_of}
 use Rattle.ob_objects.specs.Store.{Entries, objects_of, rows_of}
 
 module _ {F I : Type 0} where
-  -- whether an object among these is permanent, whether a row stands in it, and where the row that names it stands
+  -- whether an object among these is permanent, whether a row is in it, and where the row that names it is
   abbrev pub standing_among : List (Object F I) → List Row → ℕ → Standing
   standing_among objects rows id = record {
     permanent = option_map_or (λ x. x.permanent) (find (λ x. x.id == id) objects) false;

@@ -1,5 +1,5 @@
 -- A store of objects, as the list of its entries: each an id and what is stored under it. What holds
--- of every store, and which objects and rows of the abstract state it stands for.
+-- of every store, and which objects and rows of the abstract state it represents.
 --
 -- Sources: Windows Internals, Object Manager (object headers and bodies, object directories); the ids
 -- are this profile.
@@ -79,7 +79,7 @@ module _ {F I : Type 0} where
   abbrev pub rows_of : Entries F I → List Row
   rows_of store = by_stamp (rows_in_turn store)
 
-  -- where the name of an object stands
+  -- where the name of an object is
   abbrev pub place_at : Entries F I → ℕ → Option EntryPlace
   place_at store id = option_map place_of (find (λ r. r.object == id) (rows_of store))
 

@@ -18,7 +18,7 @@ use Rattle.ob_objects.specs.Store.{Entries, stored_at}
 abbrev pub Types : Type 0 → Type 0
 Types K = List (ℕ × StoredType K)
 
--- what is ahead in a walk through types stands among them
+-- what is ahead in a walk through types is among them
 abbrev pub IsAhead : {K : Type 0} → Types K → Types K → Type 0
 IsAhead types ahead = All (λ e. lookup (is_at (nat_cmp e.0)) types ≡ Some e.1) ahead
 

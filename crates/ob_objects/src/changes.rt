@@ -3,7 +3,7 @@
 ghost use Rattle.std.specs.Prelude.{◌≡◌, ◌≢◌, ◌<◌, ◌==◌, None, Some};
 ghost use Rattle.std.specs.Prelude.{not, length, All, IsSome, IfOk, IfErr, OnErr};
 ghost use Rattle.std.specs.List.{find};
-ghost use Rattle.ob_model.specs.State.{is_directory_body, shadow_in};
+ghost use Rattle.ob_model.specs.State.{is_directory_body};
 ghost use Rattle.ob_model.specs.Grants.{open_refusal_of, opened_set};
 ghost use Rattle.ob_model.specs.Closing.{closed_set};
 ghost use Rattle.ob_objects.specs.Store.{directory_of, entries_in, body_of_stored};
@@ -22,16 +22,6 @@ pub(crate) fn is_directory<F, I>(stored: &StoredObject<F, I>) -> bool
     ensures { result ≡ is_directory_body (body_of_stored stored.now.body) }
 {
     matches!(stored.body, StoredBody::Directory(..))
-}
-
-/// The shadow of a directory: none where the body is no directory's, or the directory has none.
-pub(crate) fn shadow_of<F, I>(body: &StoredBody<F, I>) -> Option<ObjId>
-    ensures { result ≡ shadow_in (body_of_stored body.now) }
-{
-    match body {
-        StoredBody::Directory(_, shadow) => *shadow,
-        _ => None,
-    }
 }
 
 /// Whether an entry lies in an object.

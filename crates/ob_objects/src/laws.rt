@@ -64,7 +64,7 @@ pub(crate) fn rows_are_the_entries<F, I>()
 {}
 
 /// The rows follow the objects as these come and go: a new object without an entry brings no row,
-/// and with an object go the rows that stand in it.
+/// and with an object go the rows that are in it.
 pub(crate) fn rows_follow_the_objects<F, I>()
     ensures new { NewObjectHasNoRow F I }
     ensures gone { RowsGoWithTheirDirectory F I }
@@ -90,7 +90,7 @@ pub(crate) fn objects_are_stored<F, I>()
     ensures rising { IdsRise F I }
 {}
 
-/// The objects follow what is stored as it comes and goes: a new one of a free id stands in order of
+/// The objects follow what is stored as it comes and goes: a new one of a free id is put in order of
 /// ids, and what is left is a store; one that is taken out goes alone.
 pub(crate) fn objects_follow<F, I>()
     ensures new { NewObjectStandsInOrder F I }

@@ -1,4 +1,4 @@
-//! Names of objects, as a store tells them.
+//! Names of objects, as a store gives them.
 
 ghost use Rattle.std.specs.Prelude.{◌≡◌, ◌==◌};
 ghost use Rattle.std.specs.List.{find};
@@ -22,6 +22,13 @@ pub struct Named<'a> {
 }
 
 impl<'a> Named<'a> {
+    /// The stamp of the entry, greater than those of all entries that came before it.
+    pub fn stamp(&self) -> u64
+        ensures { result ≡ (row_of_named self.now).stamp }
+    {
+        self.entry.stamp
+    }
+
     /// The bytes of the name, in the spelling that was kept: at most 32,767, each from 0x20 to 0x7E.
     pub fn name(&self) -> &'a [u8]
         ensures { result.now ≡ (row_of_named self.now).name }
@@ -30,7 +37,7 @@ impl<'a> Named<'a> {
     }
 }
 
-/// Where a name stands: the directory that its entry lies in, and the entry's stamp.
+/// Where a name is: the directory that its entry lies in, and the entry's stamp.
 ///
 /// Source: Windows Internals, Object Manager: object directories; the stamps are this profile.
 #[derive(Clone, Copy, PartialEq, Eq, Debug)]

@@ -1,6 +1,8 @@
 //! What is stored for one object.
 
 ghost use Rattle.std.specs.Prelude.{◌≡◌, []};
+ghost use Rattle.ob_model.specs.State.{shadow_in};
+ghost use Rattle.ob_objects.specs.Store.{body_of_stored};
 
 use ob_base::ObjId;
 use ob_dirs::Dir;
@@ -36,6 +38,18 @@ impl<F, I> StoredBody<F, I> {
         ensures { result ≡ StoredBody.Directory [] shadow }
     {
         StoredBody::Directory(Dir::new(alloc), shadow)
+    }
+
+    /// The shadow of a directory; `None` for one that has none, and for a body of another kind. It takes no memory.
+    ///
+    /// Source: Windows Internals, Object Manager (shadow directories).
+    pub fn shadow(&self) -> Option<ObjId>
+        ensures { result ≡ shadow_in (body_of_stored self.now) }
+    {
+        match self {
+            StoredBody::Directory(_, shadow) => *shadow,
+            _ => None,
+        }
     }
 }
 

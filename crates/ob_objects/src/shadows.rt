@@ -7,7 +7,7 @@ ghost use Rattle.ob_handles.specs.Counts.{count_of};
 ghost use Rattle.ob_objects.specs.Store.{body_of_stored};
 ghost use Rattle.ob_objects.specs.Shadows.{CountsMore, CountsLess};
 
-use crate::{StoredBody, changes};
+use crate::StoredBody;
 use ob_handles::Counts;
 use std::alloc::AllocError;
 
@@ -19,7 +19,7 @@ pub(crate) fn count<F, I>(shadows: &mut Counts, body: &StoredBody<F, I>) -> Resu
         (CountsMore (shadow_in (body_of_stored body.now)) shadows.old shadows.new) }
     ensures unchanged { OnErr result (shadows.new ≡ shadows.old) }
 {
-    match changes::shadow_of(body) {
+    match body.shadow() {
         Some(shadow) => shadows.add(shadow),
         None => Ok(()),
     }
@@ -29,7 +29,7 @@ pub(crate) fn count<F, I>(shadows: &mut Counts, body: &StoredBody<F, I>) -> Resu
 pub(crate) fn discount<F, I>(shadows: &mut Counts, body: &StoredBody<F, I>)
     ensures { CountsLess (shadow_in (body_of_stored body.now)) shadows.old shadows.new }
 {
-    if let Some(shadow) = changes::shadow_of(body) {
+    if let Some(shadow) = body.shadow() {
         shadows.lower(shadow);
     }
 }

@@ -1,4 +1,4 @@
-//! What is kept under ids: objects, and where the names for them stand.
+//! Slots under ids: objects, and where the names for them are.
 
 ghost use Rattle.std.specs.Prelude.{◌≡◌, ◌==◌, ℕ, [], None, Some, IfErr, OnOk, OnErr};
 ghost use Rattle.std.specs.Prelude.{nat_eq, if◌then◌else◌, IsTrue};
@@ -18,7 +18,7 @@ use indexmap::IndexMap;
 use ob_base::ObjId;
 use std::alloc::{AllocError, Global};
 
-/// What is kept under an id: the object, where one is there, and where the name for it stands, where there is one.
+/// A slot under an id: the object, where one is there, and where the name for it is, where there is one.
 #[derive(Drop)]
 pub(crate) struct Slot<F, I> {
     object: Option<StoredObject<F, I>>,
@@ -30,7 +30,7 @@ pub(crate) struct Slot<F, I> {
 #[derive(Drop)]
 pub(crate) struct Slots<F, I> {
     map: IndexMap<u64, Slot<F, I>>,
-    // Where slots stood that were changed of late, by the ends of their ids: any places give the same slots.
+    // Where slots were that were changed of late, by the ends of their ids: any places give the same slots.
     guesses: [usize; 64],
 }
 
@@ -47,7 +47,7 @@ impl<F: Drop, I: Drop> Slots<F, I> {
         }
     }
 
-    /// Where the slot of an id stands, looked for first where it may have stood of late.
+    /// Where the slot of an id is, looked for first where it may have been of late.
     #[inline(always)]
     fn place_of(&self, id: ObjId) -> Option<usize>
         ensures { IsPlaceOf id self.now.map.entries result }
@@ -95,14 +95,14 @@ impl<F: Drop, I: Drop> Slots<F, I> {
         slot.object.as_mut()
     }
 
-    /// Where the name for an id stands.
+    /// Where the name for an id is.
     pub(crate) fn place(&self, id: ObjId) -> Option<EntryPlace>
         ensures { result ≡ place_in self.now id }
     {
         self.slot(id)?.place
     }
 
-    /// The object of an id, and where the name for it stands.
+    /// The object of an id, and where the name for it is.
     pub(crate) fn both(&self, id: ObjId) -> (Option<&StoredObject<F, I>>, Option<EntryPlace>)
         ensures object { option_copied result.0 ≡ object_in self.now id }
         ensures place { result.1 ≡ place_in self.now id }
@@ -167,7 +167,7 @@ impl<F: Drop, I: Drop> Slots<F, I> {
         Some(object)
     }
 
-    /// Keeps where the name for an id stands, also for an id that no object has.
+    /// Keeps where the name for an id is, also for an id that no object has.
     pub(crate) fn keep_place(&mut self, id: ObjId, place: EntryPlace) -> Result<(), AllocError>
         ensures kept { OnOk result ((other : ℕ) → place_in self.new other
             ≡ (if id == other then Some place else place_in self.old other)) }
@@ -187,7 +187,7 @@ impl<F: Drop, I: Drop> Slots<F, I> {
         Ok(())
     }
 
-    /// Forgets where the name for an id stands.
+    /// Forgets where the name for an id is.
     pub(crate) fn forget_place(&mut self, id: ObjId)
         ensures forgotten { (other : ℕ) → place_in self.new other
             ≡ (if id == other then None else place_in self.old other) }
@@ -228,7 +228,7 @@ impl<F: Drop, I: Drop> Slots<F, I> {
     }
 }
 
-/// Whether what is under an id stands at a place.
+/// Whether an id is at a place.
 #[inline(always)]
 fn is_at<V>(map: &IndexMap<u64, V>, place: usize, id: ObjId) -> bool
     ensures { IsTrue result → IsPlaceOf id map.now.entries (Some place) }
@@ -239,7 +239,7 @@ fn is_at<V>(map: &IndexMap<u64, V>, place: usize, id: ObjId) -> bool
     }
 }
 
-/// Where what is under an id stands, searched for by its hash.
+/// Where an id is, searched for by its hash.
 #[inline(never)]
 fn searched_place<V>(map: &IndexMap<u64, V>, id: ObjId) -> Option<usize>
     ensures { IsPlaceOf id map.now.entries result }

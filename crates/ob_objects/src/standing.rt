@@ -1,11 +1,11 @@
-//! What of an object tells whether it stays.
+//! What decides whether an object stays.
 
 ghost use Rattle.std.specs.Prelude.{◌≡◌, ◌&&◌};
 ghost use Rattle.std.specs.Option.{is_some};
 
 use crate::EntryPlace;
 
-/// What of an object tells whether it stays where no handle to it is left, as a store tells it at once.
+/// What decides whether an object stays where no handle to it is left, as a store gives it at once.
 ///
 /// Source: Windows Internals, Object Manager (object retention; temporary and permanent objects); the stamps are this
 /// profile.
@@ -15,7 +15,7 @@ pub struct Standing {
     pub permanent: bool,
     /// Whether a name lies in it.
     pub holds_names: bool,
-    /// Where its name stands; `None` exactly where no name is for it.
+    /// Where its name is; `None` exactly where no name is for it.
     pub place: Option<EntryPlace>,
 }
 

@@ -10,7 +10,7 @@ ghost use Rattle.ob_model.specs.State.{is_directory_body, shadow_in};
 ghost use Rattle.ob_objects.specs.Store.{IsStore, stored_at, directory_at, entries_in, entries_at, place_at};
 ghost use Rattle.ob_objects.specs.Store.{objects_of, rows_of};
 ghost use Rattle.ob_objects.specs.Types.{KeepsTypes};
-ghost use Rattle.ob_objects.specs.Named.{row_of_named, IsLastBefore};
+ghost use Rattle.ob_objects.specs.Named.{row_of_named, IsLastBefore, IsFirstFrom};
 ghost use Rattle.ob_objects.specs.Standing.{standing_at};
 ghost use Rattle.ob_objects.specs.Changes.{with_entry, without_object, with_name, without_name, with_permanence};
 ghost use Rattle.ob_objects.specs.Changes.{
@@ -41,7 +41,7 @@ use std::marker::Model;
 ///
 /// With each name a store keeps its place, in the slot of the object that it names, so that the name of an
 /// object is not searched for. No object has two names. A slot is found by its id in a time that doesn't grow
-/// with the store. The types of objects stand in a map of their own by rising ids, in which they lie close together,
+/// with the store. The types of objects are in a map of their own by rising ids, in which they lie close together,
 /// so that a listing of a directory doesn't touch the objects.
 ///
 /// Source: Windows Internals, Object Manager: object headers and bodies; the ids are this profile.
@@ -83,7 +83,7 @@ impl<T: TypeSet> Store<T> {
     pub fn len(&self) -> usize
         ensures count { result ≡ length self.now }
 
-        // What holds of every store.
+        // The invariant of every store.
         ensures store { IsStore self.now }
     {
         self.types.len()
@@ -100,7 +100,7 @@ impl<T: TypeSet> Store<T> {
     pub fn get(&self, id: ObjId) -> Option<&StoredObject<T::Face, T::Inner>>
         ensures stored { option_copied result ≡ stored_at self.now id }
 
-        // What holds of every store.
+        // The invariant of every store.
         ensures store { IsStore self.now }
     {
         self.slots.object(id)
@@ -125,7 +125,7 @@ impl<T: TypeSet> Store<T> {
             (find (λ object. object.id == id) (objects_of self.now)) }
     {
         match self.get(id) {
-            Some(stored) => changes::shadow_of(&stored.body),
+            Some(stored) => stored.body.shadow(),
             None => None,
         }
     }
@@ -136,7 +136,7 @@ impl<T: TypeSet> Store<T> {
     pub fn is_shadow(&self, id: ObjId) -> bool
         ensures { result ≡ list_any (λ object. has_shadow id object.body) (objects_of self.now) }
     {
-        // The length tells that the types are in order.
+        // The length says that the types are in order.
         let _ = self.types.len();
         self.shadows.get(id) > 0
     }
@@ -176,7 +176,7 @@ impl<T: TypeSet> Store<T> {
         self.place_of(id).is_some()
     }
 
-    /// Where the name of an object stands; `None` exactly where no name is for it. Takes no memory.
+    /// Where the name of an object is; `None` exactly where no name is for it. Takes no memory.
     ///
     /// Source: Windows Internals, Object Manager: object names; the stamps are this profile.
     pub fn place_of(&self, id: ObjId) -> Option<EntryPlace>
@@ -202,14 +202,14 @@ impl<T: TypeSet> Store<T> {
         })
     }
 
-    /// What tells whether an object stays, found at once: whether it is permanent, whether names lie in it, and where
-    /// its name stands. Takes no memory.
+    /// What decides whether an object stays, found at once: whether it is permanent, whether names lie in it, and where
+    /// its name is. Takes no memory.
     ///
     /// Source: Windows Internals, Object Manager (object retention); the stamps are this profile.
     pub fn standing_of(&self, id: ObjId) -> Standing
         ensures standing { result ≡ standing_at self.now id }
 
-        // What holds of every store.
+        // The invariant of every store.
         ensures store { IsStore self.now }
     {
         let (object, place) = self.slots.both(id);
@@ -234,6 +234,19 @@ impl<T: TypeSet> Store<T> {
         Some(ObjId(*last))
     }
 
+    /// The least id of an object from this one on; `None` exactly where all objects have lesser ids. Takes no
+    /// memory.
+    ///
+    /// Source: the ids are this profile.
+    pub fn first_from(&self, id: ObjId) -> Option<ObjId>
+        ensures { IsFirstFrom id (objects_of self.now) result }
+    {
+        let Some((first, _)) = self.types.range(id.0..).next() else {
+            return None;
+        };
+        Some(ObjId(*first))
+    }
+
     // A walk through the types of the objects, by rising ids.
     pub(crate) fn walk(&self) -> Walk<'_, T::Kind>
         ensures { KeepsTypes T.procedures self.now result }
@@ -241,7 +254,7 @@ impl<T: TypeSet> Store<T> {
         Walk::through(&self.types)
     }
 
-    /// Stores an object under an id that no object has; it stands in order of ids, before the first of a
+    /// Stores an object under an id that no object has; it is put in order of ids, before the first of a
     /// greater one. A directory must be empty: names come one by one.
     ///
     /// The only fault is `Memory`; then the object is dropped and nothing has changed.

@@ -14,7 +14,7 @@ use std::marker::Model;
 // How many objects a walk passes by before it seeks one.
 const NEAR: usize = 4;
 
-/// A walk through the types of objects. What stands shortly after the object that was asked for last is at
+/// A walk through the types of objects. Those shortly after the object that was asked for last are at
 /// hand; any other is sought. Objects that were made one after another have ids one after another, so who
 /// asks for the objects of a directory in the order of its entries mostly walks.
 ///
@@ -63,7 +63,7 @@ impl<'a, K: Copy> Walk<'a, K> {
         self.types.get(&id.0).copied()
     }
 
-    // What stands shortly ahead, where that has this id.
+    // The type shortly ahead, where it has this id.
     fn near(&mut self, id: ObjId) -> Option<StoredType<K>>
         ensures stored { IfSome result (λ next. lookup (is_at (nat_cmp id)) self.old ≡ Some next) }
         ensures unchanged { self.new ≡ self.old }
@@ -77,7 +77,7 @@ impl<'a, K: Copy> Walk<'a, K> {
         None
     }
 
-    // What stands next, where that has this id.
+    // The next type, where it has this id.
     fn next_with(&mut self, id: ObjId) -> Option<StoredType<K>>
         ensures stored { IfSome result (λ next. lookup (is_at (nat_cmp id)) self.old ≡ Some next) }
         ensures unchanged { self.new ≡ self.old }

@@ -52,7 +52,7 @@ fn push_count(block: &mut Vec<u8>, word: &[u8], count: u64)
     push_number(block, count);
 }
 
-// Adds a number in decimal digits.
+/// Adds a number in decimal digits, at most 20, to a block with room for them. (this profile)
 pub fn push_number(block: &mut Vec<u8>, number: u64)
     requires { vec_len block.old + 20 ≤ vec_capacity block.old }
     ensures items { block.new.items ≡ block.old.items ++ decimal number }
@@ -63,7 +63,7 @@ pub fn push_number(block: &mut Vec<u8>, number: u64)
     push_text(block, digits.format(number).as_bytes());
 }
 
-// Adds a text.
+/// Adds a text to a block with room for it. (this profile)
 pub fn push_text(block: &mut Vec<u8>, text: &[u8])
     requires { vec_len block.old + length text.now ≤ vec_capacity block.old }
     ensures items { block.new.items ≡ block.old.items ++ text.now }

@@ -5,3 +5,4 @@ pub mod Handles
 pub mod Parted
 pub mod Processed
 pub mod Paged
+pub mod Stopped

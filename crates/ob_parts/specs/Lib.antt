@@ -3,4 +3,5 @@ pub mod Kinds
 pub mod Pages
 pub mod Parts
 pub mod Plain
+pub mod Stops
 pub mod Text

@@ -14,6 +14,7 @@ mod name;
 mod page;
 mod parts;
 mod process;
+mod sort;
 mod split;
 mod text;
 
@@ -26,5 +27,6 @@ pub use parts::{
     want_name_flags_and_word, word_set,
 };
 pub use process::{process_set, take_handle, take_inherit, take_process};
+pub use sort::{LastForm, PartForm, stop_of};
 pub use split::{behind, split_at};
 pub use text::{decode, is_word, texts_spell_one_thing};

@@ -1,6 +1,6 @@
 //! Which entries of a directory a line asks for.
 
-ghost use Rattle.std.specs.Prelude.{◌≡◌, ◌≢◌, ◌≤◌, ℕ, List, slice_index, IfSome, IfNone};
+ghost use Rattle.std.specs.Prelude.{◌≡◌, ◌≢◌, ◌≤◌, ℕ, List, length, slice_index, IfSome, IfNone};
 ghost use Rattle.ob_parts.specs.declared.page.PageMode.{PageMode};
 ghost use Rattle.ob_parts.specs.Parts.{BeginsWithRoom};
 ghost use Rattle.ob_parts.specs.Pages.{IsRoom, is_first, is_single, mode_text};
@@ -64,6 +64,7 @@ pub fn mode_of(word: &[u8]) -> Option<PageMode>
 /// decimal number below 2^32, or with one that has needless zeros. Takes no memory. Source: this profile.
 pub fn take_room(bytes: &[u8]) -> Option<(u32, &[u8])>
     ensures found { IfSome result (λ found. BeginsWithRoom bytes.now found.0 found.1.now) }
+    ensures shorter { IfSome result (λ found. length found.1.now ≤ length bytes.now) }
     ensures none { IfNone result ((room : ℕ) (rest : List ℕ)
         → ¬ BeginsWithRoom bytes.now room rest) }
 {

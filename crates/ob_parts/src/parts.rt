@@ -14,7 +14,7 @@ use crate::split::{behind_byte, split_at};
 use crate::text::{is_text, is_word};
 
 // The text between double quotes with which the bytes begin, and what follows it and a space.
-fn take_text(bytes: &[u8]) -> Option<(&[u8], &[u8])>
+pub(crate) fn take_text(bytes: &[u8]) -> Option<(&[u8], &[u8])>
     ensures found { IfSome result (λ found. BeginsWithText bytes.now found.0.now found.1.now) }
     ensures shorter { IfSome result (λ found. length found.1.now ≤ length bytes.now) }
     ensures none { IfNone result ((text rest : List ℕ) → ¬ BeginsWithText bytes.now text rest) }
@@ -29,7 +29,7 @@ fn take_text(bytes: &[u8]) -> Option<(&[u8], &[u8])>
 }
 
 // The name with which the bytes begin, and what follows it and a space.
-fn take_name(bytes: &[u8]) -> Option<(NameForm<&[u8]>, &[u8])>
+pub(crate) fn take_name(bytes: &[u8]) -> Option<(NameForm<&[u8]>, &[u8])>
     ensures found { IfSome result (λ found.
         BeginsWithName bytes.now (name_seen found.0) found.1.now) }
     ensures shorter { IfSome result (λ found. length found.1.now ≤ length bytes.now) }
@@ -62,7 +62,7 @@ pub fn take_place(bytes: &[u8]) -> Option<(PlaceForm<&[u8]>, &[u8])>
 }
 
 // The bits of the flags with which the bytes begin, and what follows them and a space.
-fn take_flags(bytes: &[u8]) -> Option<(u32, &[u8])>
+pub(crate) fn take_flags(bytes: &[u8]) -> Option<(u32, &[u8])>
     requires { length bytes.now ≤ 262144 }
     ensures found { IfSome result (λ found. BeginsWithFlags bytes.now found.0 found.1.now) }
     ensures shorter { IfSome result (λ found. length found.1.now ≤ length bytes.now) }

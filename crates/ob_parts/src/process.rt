@@ -41,6 +41,7 @@ pub fn take_process(bytes: &[u8]) -> Option<(&[u8], &[u8])>
 /// `plain`, none where they begin with neither. Takes no memory. Source: this profile.
 pub fn take_inherit(bytes: &[u8]) -> Option<(bool, &[u8])>
     ensures found { IfSome result (λ found. BeginsWithInherit bytes.now found.0 found.1.now) }
+    ensures shorter { IfSome result (λ found. length found.1.now ≤ length bytes.now) }
     ensures none { IfNone result ((inherit : Bool) (rest : List ℕ)
         → ¬ BeginsWithInherit bytes.now inherit rest) }
 {

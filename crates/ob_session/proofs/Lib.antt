@@ -1,3 +1,4 @@
 pub mod Runs
 pub mod Firsts
 pub mod Talks
+pub mod Answered

@@ -7,12 +7,17 @@ use Rattle.ob_model.specs.Opening.{opening}
 use Rattle.ob_model.specs.Run.{Run}
 use Rattle.ob_standard.specs.Standard.{Standard, standard, IsFresh}
 use Rattle.ob_lines.specs.declared.form.Form.{Form}
+use Rattle.ob_lines.specs.declared.misfit.Misfit.{Misfit}
 use Rattle.ob_lines.specs.Lines.{lines_of}
+use Rattle.ob_lines.specs.Misfits.{IsMisfit}
 use Rattle.ob_lines.specs.Script.{HasForm}
 use Rattle.ob_requests.specs.Words.{Words, first_words}
 use Rattle.ob_effects.specs.Machine.{Space}
 use Rattle.ob_effects.specs.declared.outcome.LineOutcome.{LineOutcome}
+use Rattle.ob_effects.specs.declared.outcome.LineOutcome.TheVariants as outcome
 use Rattle.ob_effects.specs.Effects.{IsDone}
+use Rattle.ob_output.specs.Misfits.{misfit_text}
+use Rattle.ob_output.specs.Printed.{output_line}
 use Rattle.ob_shell.specs.Running.{outcome_text}
 use Rattle.ob_shell.specs.Shown.{Entries, AreOfSeat0}
 use Rattle.ob_streams.specs.Writing.{AppendsFront}
@@ -20,13 +25,23 @@ use Rattle.ob_streams.specs.declared.fault.ShellFault.{ShellFault}
 use Rattle.ob_streams.specs.declared.fault.ShellFault.TheVariants.{Read, Write, TooLong, Memory, Mismatch}
 use Rattle.ob_session.specs.Taken.{TakesLine}
 
+-- The answer to the line of this number is the text of its outcome; of a line that is no script line it says where the line stops.
+abbrev pub IsAnswer : ℕ → List ℕ → LineOutcome → List ℕ → Type 0
+IsAnswer number line outcome.Idle text = text ≡ outcome_text number outcome.Idle
+IsAnswer number line (outcome.Counted counts) text = text ≡ outcome_text number (outcome.Counted counts)
+IsAnswer number line (outcome.Replied reply) text = text ≡ outcome_text number (outcome.Replied reply)
+IsAnswer number line outcome.Pending text = text ≡ outcome_text number outcome.Pending
+IsAnswer number line (outcome.Told notice) text = text ≡ outcome_text number (outcome.Told notice)
+IsAnswer number line outcome.NoLine text = (misfit : Misfit) × IsMisfit line misfit × (text ≡ output_line number (misfit_text misfit))
+IsAnswer number line outcome.NoMemory text = text ≡ outcome_text number outcome.NoMemory
+
 -- the line of this number is performed with these variables and in this state, and answered by this text
 pub record IsAnswered (number : ℕ) (line : List ℕ) (words : Words) (s : Space) (text : List ℕ) (words' : Words) (s' : Space) : Type 0 where
   pub form : Option (Form (List ℕ))
   pub formed : HasForm line form
   pub outcome : LineOutcome
   pub done : IsDone form words s outcome words' s'
-  pub told : text ≡ outcome_text number outcome
+  pub told : IsAnswer number line outcome text
 
 -- lines, the first of this number, are performed one after another, and their answers in a row are the output
 abbrev pub AreAnswered : ℕ → List (List ℕ) → Words → Space → List ℕ → Words → Space → Type 0

@@ -1,14 +1,18 @@
 //! The run of a session.
 
-ghost use Rattle.std.specs.Prelude.{◌≡◌, ◌≤◌, ◌<◌, ◌^◌, [], vec_capacity, IfErr, IfOk};
+ghost use Rattle.std.specs.Prelude.{◌≡◌, ◌≤◌, ◌<◌, ◌^◌, [], ℕ, List, None, vec_capacity, IfErr, IfOk};
 ghost use Rattle.std.specs.Io.KnownBytes.{Appends};
 ghost use Rattle.ob_streams.specs.Writing.{AppendsFront};
-ghost use Rattle.ob_shell.specs.Running.{outcome_text};
+ghost use Rattle.ob_effects.specs.declared.outcome.LineOutcome.TheVariants as outcomes;
+ghost use Rattle.ob_lines.specs.Script.{HasForm};
+ghost use Rattle.ob_output.specs.Gathering.{Gathers};
 ghost use Rattle.ob_effects.specs.Kept.{IsFirst, IsSession, space_of, words_of};
-ghost use Rattle.ob_session.specs.Session.{HasAnswered, IsConversation, IsConversationCut, IsTurn, IsTurnCut};
+ghost use Rattle.ob_session.specs.Session.{HasAnswered, IsAnswer, IsConversation, IsConversationCut, IsTurn, IsTurnCut};
 
 use crate::reading::take_line;
 use ob_effects::{LineOutcome, Session};
+use ob_lines::misfit_of;
+use ob_output::push_misfit_line;
 use ob_shell::{perform_line, write_outcome};
 use ob_streams::{ShellFault, Unwritten, write_out};
 use std::alloc::Global;
@@ -20,7 +24,8 @@ const BLOCK: usize = 65_536;
 /// Reads lines of a script, and performs each and writes its reply before it reads the next one, from the opening state with the standard set of
 /// types, until the reader is at its end; docs/script.md has the language. Opens that are pending then are abandoned.
 ///
-/// A line that is no script line, or that finds no memory, has such a reply, and the session goes on. So a session ends with a fault alone: `Read`
+/// A line that is no script line has a reply that says in which column it stops and what was expected there; one that finds no memory has a reply
+/// that says so. After both the session goes on. So a session ends with a fault alone: `Read`
 /// and `Memory`, after which each line that was taken has its reply, and `Write`, after which a beginning of the last one's was written. A line
 /// that finds no memory while it is read is the fault `Memory`. A session of 2^64 - 2 lines ends with `TooLong`. The writer is not flushed.
 /// (this profile)
@@ -98,28 +103,64 @@ pub fn answer_next<R: BufRead, W: Write>(
         return Ok(false);
     }
     let outcome = perform_line(session, line.as_slice());
-    write_answer(writer, block, number, &outcome)?;
+    write_answer(writer, block, number, line.as_slice(), &outcome)?;
     Ok(true)
 }
 
-/// Writes the outcome of the line of this number, a line of output or none, by way of the block.
+/// Writes the answer to the line of this number, a line of output or none, by way of the block.
 fn write_answer<W: Write>(
     writer: &mut W,
     block: &mut Vec<u8>,
     number: u64,
+    line: &[u8],
     outcome: &LineOutcome,
 ) -> Result<(), Unwritten>
+    requires formed { outcome.now ≡ outcomes.NoLine → HasForm line.now None }
     requires empty { block.old.items ≡ [] }
     requires capacity { 192 ≤ vec_capacity block.old }
-    ensures ok { IfOk result (λ _. Appends (W.contents writer.old) (W.contents writer.new)
-        (outcome_text number outcome.now)) }
-    ensures front { IfErr result (λ _. AppendsFront (W.contents writer.old)
-        (W.contents writer.new) (outcome_text number outcome.now)) }
+    ensures ok { IfOk result (λ _. (text : List ℕ) × IsAnswer number line.now outcome.now text
+        × Appends (W.contents writer.old) (W.contents writer.new) text) }
+    ensures front { IfErr result (λ _. (text : List ℕ) × IsAnswer number line.now outcome.now text
+        × AppendsFront (W.contents writer.old) (W.contents writer.new) text) }
     ensures empty { IfOk result (λ _. block.new.items ≡ []) }
     ensures capacity { vec_capacity block.old ≤ vec_capacity block.new }
 {
-    write_outcome(writer, block, number, outcome)?;
+    gather_answer(writer, block, number, line, outcome)?;
     write_out(writer, block.as_slice())?;
     block.clear();
     Ok(())
+}
+
+/// Puts the answer to the line of this number into the block, which is empty.
+fn gather_answer<W: Write>(
+    writer: &mut W,
+    block: &mut Vec<u8>,
+    number: u64,
+    line: &[u8],
+    outcome: &LineOutcome,
+) -> Result<(), Unwritten>
+    requires formed { outcome.now ≡ outcomes.NoLine → HasForm line.now None }
+    requires empty { block.old.items ≡ [] }
+    requires capacity { 192 ≤ vec_capacity block.old }
+    ensures ok { IfOk result (λ _. (text : List ℕ) × IsAnswer number line.now outcome.now text
+        × Gathers (W.contents writer.old) (W.contents writer.new) [] text block.new.items) }
+    ensures front { IfErr result (λ _. (text : List ℕ) × IsAnswer number line.now outcome.now text
+        × AppendsFront (W.contents writer.old) (W.contents writer.new) text) }
+    ensures capacity { vec_capacity block.old ≤ vec_capacity block.new }
+{
+    match outcome {
+        LineOutcome::NoLine => match misfit_of(line) {
+            Some(misfit) => {
+                push_misfit_line(block, number, misfit);
+                Ok(())
+            }
+            None => unreachable!(),
+        },
+        LineOutcome::Idle
+        | LineOutcome::Counted(_)
+        | LineOutcome::Replied(_)
+        | LineOutcome::Pending
+        | LineOutcome::Told(_)
+        | LineOutcome::NoMemory => write_outcome(writer, block, number, outcome),
+    }
 }

@@ -23,9 +23,9 @@ use Rattle.ob_lines.specs.declared.pending.PendingForm.{PendingForm}
 use Rattle.ob_lines.specs.Script.{Forms, BeginsWithLine, BeginsWithForms}
 use Rattle.ob_lines.proofs.Scripted.{HaveTexts, begins_more, goes_on}
 use Rattle.ob_requests.specs.Words.{Words}
-use Rattle.ob_shell.specs.Gathering.{Gathers}
+use Rattle.ob_output.specs.Gathering.{Gathers}
 use Rattle.ob_streams.specs.Writing.{AppendsFront}
-use Rattle.ob_shell.proofs.Gathered.{gathers_nothing, gathers_more, gathers_front, gathers_out, gathers_out_front}
+use Rattle.ob_output.proofs.Gathered.{gathers_nothing, gathers_more, gathers_front, gathers_out, gathers_out_front}
 use Rattle.ob_standard.specs.Standard.{StandardKind, standard}
 use Rattle.ob_effects.specs.Machine.{Space, counts_of}
 use Rattle.ob_effects.specs.Effects.{MakesStep, notice_text, IsDone}

@@ -1,4 +1,3 @@
-pub mod Gathered
 pub mod Told
 pub mod Listed
 pub mod Finals

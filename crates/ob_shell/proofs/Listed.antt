@@ -5,9 +5,9 @@ use Rattle.std.specs.Fmt.{decimal}
 use Rattle.ob_base.specs.declared.status.Status.{Status}
 use Rattle.ob_model.specs.declared.entries.Listed.{Listed}
 use Rattle.ob_output.specs.Printed.{output_line, status_text, printed_bytes, entry_text, entries_text}
-use Rattle.ob_shell.specs.Gathering.{Gathers}
+use Rattle.ob_output.specs.Gathering.{Gathers}
 use Rattle.ob_streams.specs.Writing.{AppendsFront}
-use Rattle.ob_shell.proofs.Gathered.{GathersUpTo, gathers_more, gathers_front, front_gathers, up_to_nothing}
+use Rattle.ob_output.proofs.Gathered.{GathersUpTo, gathers_more, gathers_front, front_gathers, up_to_nothing}
 
 -- a front of what was left is gathered
 left_more : {old mid new : Option (List ℕ)} {had between has bytes : List ℕ} (part rest : List ℕ) → GathersUpTo old mid had bytes (part ++ rest) between

@@ -6,9 +6,9 @@ use Rattle.ob_base.specs.declared.status.Status.{Status}
 use Rattle.ob_model.specs.declared.reply.Given.TheVariants.{Text}
 use Rattle.ob_output.specs.Printed.{output_line, status_text, printed_bytes, given_text}
 use Rattle.ob_output.proofs.Printed.{printed_append}
-use Rattle.ob_shell.specs.Gathering.{Gathers}
+use Rattle.ob_output.specs.Gathering.{Gathers}
 use Rattle.ob_streams.specs.Writing.{AppendsFront}
-use Rattle.ob_shell.proofs.Gathered.{GathersUpTo, gathers_more, gathers_front, front_gathers}
+use Rattle.ob_output.proofs.Gathered.{GathersUpTo, gathers_more, gathers_front, front_gathers}
 
 -- a text is printed as a front of it and then its rest
 printed_cut : (rest : List ℕ) (count : ℕ) → printed_bytes rest ≡ printed_bytes (take count rest) ++ printed_bytes (drop count rest)

@@ -1,4 +1,3 @@
-pub mod Gathering
 pub mod Shown
 pub mod Running
 pub mod Offsets

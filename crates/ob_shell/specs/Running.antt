@@ -9,7 +9,7 @@ use Rattle.ob_shell.specs.declared.run.Ending.{Ending}
 use Rattle.ob_shell.specs.declared.run.Ending.TheVariants as ending
 use Rattle.ob_output.specs.Printed.{output_line, reply_text, counts_text}
 use Rattle.ob_shell.specs.Shown.{Plays, PlaysFirst, PlaysPartTo}
-use Rattle.ob_shell.specs.Gathering.{Gathers}
+use Rattle.ob_output.specs.Gathering.{Gathers}
 use Rattle.ob_streams.specs.declared.fault.ShellFault.{ShellFault}
 use Rattle.ob_streams.specs.declared.fault.ShellFault.TheVariants as fault
 

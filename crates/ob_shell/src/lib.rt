@@ -1,7 +1,6 @@
 //! The shell: scripts are read whole, run line by line over the namespace, and answered in text.
 #![tactic(auto)]
 
-mod gathering;
 mod laws;
 mod lines;
 mod printing;

@@ -3,13 +3,12 @@
 ghost use Rattle.std.specs.Prelude.{◌≡◌, ◌≤◌, ◌++◌, codes, length, vec_capacity, OnOk, OnErr};
 ghost use Rattle.std.specs.Fmt.{decimal};
 ghost use Rattle.ob_output.specs.Printed.{output_line, status_text, counts_text};
-ghost use Rattle.ob_shell.specs.Gathering.{Gathers};
+ghost use Rattle.ob_output.specs.Gathering.{Gathers};
 ghost use Rattle.ob_streams.specs.Writing.{AppendsFront};
 
-use crate::gathering::make_room;
 use ob_base::Status;
 use ob_output::{
-    LINE_ROOM, Totals, push_counts_line, push_status_front, push_status_line, push_text_front,
+    LINE_ROOM, Totals, make_room, push_counts_line, push_status_front, push_status_line, push_text_front,
     push_text_line,
 };
 use ob_streams::Unwritten;

@@ -1,20 +1,19 @@
 //! Writing what became of a line.
 
 ghost use Rattle.std.specs.Prelude.{◌≡◌, ◌≤◌, ◌++◌, length, vec_capacity, OnOk, OnErr};
-ghost use Rattle.ob_shell.specs.Gathering.{Gathers};
+ghost use Rattle.ob_output.specs.Gathering.{Gathers};
 ghost use Rattle.ob_streams.specs.Writing.{AppendsFront};
 ghost use Rattle.ob_output.specs.Printed.{output_line, status_text, printed_bytes, entry_text, entries_text, given_text, reply_text};
 ghost use Rattle.ob_shell.specs.Running.{outcome_text};
 ghost use Rattle.ob_model.specs.declared.reply.Given.TheVariants.{Text};
 
-use crate::gathering::{gather, make_room};
 use crate::lines::{
     write_counts_line, write_status_front, write_status_line, write_text_front, write_text_line,
 };
 use ob_base::Status;
 use ob_effects::LineOutcome;
 use ob_model::{Entries, Given, Listed, Reply};
-use ob_output::{LINE_ROOM, push_entry, push_printed};
+use ob_output::{LINE_ROOM, gather, make_room, push_entry, push_printed};
 use ob_streams::Unwritten;
 use std::io::Write;
 

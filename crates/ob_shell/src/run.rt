@@ -3,7 +3,7 @@
 ghost use Rattle.std.specs.Prelude.{◌≡◌, ◌≢◌, ◌+◌, ◌<◌, ◌≤◌, false, [], ◌++◌, ℕ, List, Option, length, vec_capacity, IfOk, IfErr, OnOk, OnErr, IsErr, IfSome, IsErrOf};
 ghost use Rattle.ob_streams.specs.Fault.{is_unwritten};
 ghost use Rattle.ob_streams.specs.Reading.{StopsLong, StopsReading, TakesAtMost};
-ghost use Rattle.ob_shell.specs.Gathering.{Gathers};
+ghost use Rattle.ob_output.specs.Gathering.{Gathers};
 ghost use Rattle.ob_streams.specs.Writing.{AppendsFront};
 ghost use Rattle.ob_shell.specs.Shown.{PlaysTo, PlaysPartTo};
 ghost use Rattle.ob_effects.specs.Effects.{IsDone};

@@ -9,22 +9,23 @@ ghost use Rattle.ob_space.specs.FirstStore.{standing, opening_objects, opening_e
 
 use crate::space::ROOT;
 use ob_base::ObjId;
+use ob_lookup::{Cache, CachedStore};
 use ob_names::{Name, NameBuf};
-use ob_objects::{Store, StoredBody, StoredObject};
+use ob_objects::{StoredBody, StoredObject};
 use ob_types::TypeSet;
 use std::alloc::{AllocError, Global};
 
 /// The store of the opening state: the root directory, `\GLOBAL??`, `\DosDevices` (a link to `\??`),
 /// `\Device`, `\BaseNamedObjects` and `\Sessions`, with the ids 1 to 6, all permanent, and their names
-/// in the root with the stamps 1 to 5. So the next id is 7, and the next stamp 6. The only fault is
-/// out of memory.
+/// in the root with the stamps 1 to 5. So the next id is 7, and the next stamp 6. Names are looked up in it by this
+/// cache, which is emptied first. The only fault is out of memory, and then the cache is dropped.
 ///
 /// Source: Windows Internals, Object Manager (object directories, session namespace); which objects
 /// there are at first is this profile.
-pub fn opening_store<T: TypeSet>(alloc: Global) -> Result<Store<T>, AllocError>
+pub fn opening_store<T: TypeSet>(alloc: Global, cache: Cache) -> Result<CachedStore<T>, AllocError>
     ensures store { IfOk result (λ store. store ≡ opening_entries) }
 {
-    let mut store = Store::new(alloc);
+    let mut store = CachedStore::new(alloc, cache);
     match put_opening(alloc, &mut store) {
         Ok(()) => Ok(store),
         Err(fault) => {
@@ -35,7 +36,7 @@ pub fn opening_store<T: TypeSet>(alloc: Global) -> Result<Store<T>, AllocError>
 }
 
 /// Puts the objects and names of the opening state into a store that has none.
-fn put_opening<T: TypeSet>(alloc: Global, store: &mut Store<T>) -> Result<(), AllocError>
+fn put_opening<T: TypeSet>(alloc: Global, store: &mut CachedStore<T>) -> Result<(), AllocError>
     requires { store.old ≡ [] }
     ensures { IfOk result (λ _. store.new ≡ opening_entries) }
 {
@@ -48,7 +49,7 @@ fn put_opening<T: TypeSet>(alloc: Global, store: &mut Store<T>) -> Result<(), Al
 }
 
 /// Puts the objects of the opening state, without their names, into a store that has none.
-fn put_objects<T: TypeSet>(alloc: Global, store: &mut Store<T>) -> Result<(), AllocError>
+fn put_objects<T: TypeSet>(alloc: Global, store: &mut CachedStore<T>) -> Result<(), AllocError>
     requires { store.old ≡ [] }
     ensures { IfOk result (λ _. store.new ≡ opening_objects) }
 {
@@ -75,7 +76,7 @@ fn standing<F, I>(body: StoredBody<F, I>) -> StoredObject<F, I>
 /// Puts a name into the root directory, in which that spelling must be free and all stamps lower.
 fn name_in_root<T: TypeSet>(
     alloc: Global,
-    store: &mut Store<T>,
+    store: &mut CachedStore<T>,
     stamp: u64,
     name: &[u8],
     object: u64,

@@ -2,8 +2,8 @@
 
 use crate::commands::command_of;
 use crate::lines::{number_of, word_of};
-use ob_base::{Fault, Handle, Proc, Status};
-use ob_core::{Brought, Command, Core, Given, HandleTable, Referent, Reply, Started};
+use ob_base::{Fault, Handle, ObjId, Proc, Status};
+use ob_core::{Brought, Command, Core, Given, HandleTable, Referent, RemovedName, Reply, Started};
 use ob_plain::{Call, Recorder, Refusing};
 use ob_types::TypeSet;
 use std::alloc::Global;
@@ -72,9 +72,11 @@ impl<T: Listing, H: HandleTable> Stage<T, H> {
     /// The opening state over a set, whose lines name these two kinds as the first and the other one. The only fault is out of memory, and then
     /// the set is dropped.
     pub fn new(alloc: Global, set: T, kinds: (T::Kind, T::Kind)) -> Result<Stage<T, H>, Fault> {
+        let mut core = Core::new(alloc, set)?;
+        core.list_removed();
         let space = Space {
             alloc,
-            core: Core::new(alloc, set)?,
+            core,
             kinds,
             end: End::Unmade,
             given: Vec::new(alloc),
@@ -209,6 +211,25 @@ impl<T: Listing, H: HandleTable> Stage<T, H> {
     /// How many objects and handles there are.
     pub fn counts(&self) -> (usize, usize) {
         (self.space.core.objects(), self.space.core.handles())
+    }
+
+    /// How many names there are, and the removed ones, as objects and stamps.
+    pub fn names(&self) -> (usize, &[RemovedName]) {
+        (self.space.core.names(), self.space.core.removed())
+    }
+
+    /// The first object from an id on, with its name: its last byte, its stamp and its directory, each 0 where there is none.
+    pub fn first_from(&self, id: u32) -> (u64, u8, u64, u64) {
+        let Some(first) = self.space.core.first_from(ObjId(u64::from(id))) else {
+            return (0, 0, 0, 0);
+        };
+        match self.space.core.name_of(first) {
+            Some(name) => {
+                let last = name.name().last().copied().unwrap_or(0);
+                (first.0, last, name.stamp(), name.directory.0)
+            }
+            None => (first.0, 0, 0, 0),
+        }
     }
 
     /// The calls of the set that there was room for, and how many are after them.

@@ -2,6 +2,8 @@
 -- Source: this profile.
 use Rattle.std.specs.Prelude.{◌≡◌, ◌≢◌, ◌<◌, ℕ, false, List, ◌++◌, length, Option, Some, None, Result, Ok, Err, IfOk, IfErr, OnOk, OnErr, IsErr, IsErrOf, IfSome, codes}
 use Rattle.std.specs.Io.KnownBytes.{Appends, Keeps}
+use Rattle.ob_check.specs.Report.{Checks}
+use Rattle.ob_check.specs.declared.check.Checked.{Checked}
 use Rattle.ob_shell.specs.Shown.{PlaysTo, PlaysPartTo}
 use Rattle.ob_shell.specs.declared.run.Ending.{Ending}
 use Rattle.ob_streams.specs.Fault.{fault_text_of, is_unwritten}
@@ -20,7 +22,7 @@ use Rattle.ob_verdict.specs.Verdict.{Replays}
 use Rattle.ob_verdict.specs.declared.verdict.Verdict.{Verdict}
 use Rattle.ob_words.specs.declared.planning.Task.{Task}
 use Rattle.ob_session.specs.Session.{IsConversation, IsConversationCut}
-use Rattle.ob_words.specs.declared.planning.Task.TheVariants.{Script, Run, Threads, Replay, Session}
+use Rattle.ob_words.specs.declared.planning.Task.TheVariants.{Script, Run, Threads, Replay, Check, Session}
 
 -- the line that tells a text
 abbrev pub line_of : List ℕ → List ℕ
@@ -45,6 +47,7 @@ text_told (Ok (ended.Threads (threads.BadLine line))) = None
 text_told (Ok (ended.Threads (threads.NoMemoryAt line))) = Some (fault_text_of Memory)
 text_told (Ok (ended.Threads (threads.RefusedAt line))) = Some (codes "step refused")
 text_told (Ok (ended.Replay verdict)) = None
+text_told (Ok (ended.Check checked)) = None
 text_told (Ok ended.Session) = None
 text_told (Err fault) = Some (fault_text_of fault)
 
@@ -79,6 +82,7 @@ abbrev pub OfScript : (Result Ending ShellFault → Type 0) → Result Ended She
 OfScript P (Ok (ended.Script ending)) = P (Ok ending)
 OfScript P (Ok (ended.Threads ending)) = ⊥
 OfScript P (Ok (ended.Replay verdict)) = ⊥
+OfScript P (Ok (ended.Check checked)) = ⊥
 OfScript P (Ok ended.Session) = ⊥
 OfScript P (Err fault) = P (Err fault)
 
@@ -87,6 +91,7 @@ abbrev pub OfThreads : (Result ThreadsEnding ShellFault → Type 0) → Result E
 OfThreads P (Ok (ended.Script ending)) = ⊥
 OfThreads P (Ok (ended.Threads ending)) = P (Ok ending)
 OfThreads P (Ok (ended.Replay verdict)) = ⊥
+OfThreads P (Ok (ended.Check checked)) = ⊥
 OfThreads P (Ok ended.Session) = ⊥
 OfThreads P (Err fault) = P (Err fault)
 
@@ -95,14 +100,25 @@ abbrev pub OfReplay : (Result Verdict ShellFault → Type 0) → Result Ended Sh
 OfReplay P (Ok (ended.Script ending)) = ⊥
 OfReplay P (Ok (ended.Threads ending)) = ⊥
 OfReplay P (Ok (ended.Replay verdict)) = P (Ok verdict)
+OfReplay P (Ok (ended.Check checked)) = ⊥
 OfReplay P (Ok ended.Session) = ⊥
 OfReplay P (Err fault) = P (Err fault)
+
+-- the outcome is that of the check of a script, of which this holds
+abbrev pub OfCheck : (Result Checked ShellFault → Type 0) → Result Ended ShellFault → Type 0
+OfCheck P (Ok (ended.Script ending)) = ⊥
+OfCheck P (Ok (ended.Threads ending)) = ⊥
+OfCheck P (Ok (ended.Replay verdict)) = ⊥
+OfCheck P (Ok (ended.Check checked)) = P (Ok checked)
+OfCheck P (Ok ended.Session) = ⊥
+OfCheck P (Err fault) = P (Err fault)
 
 -- the outcome is that of a session over the input: all its lines were answered, or a fault cut it
 abbrev pub RunsSession : Result Ended ShellFault → Option (List ℕ) → Option (List ℕ) → Option (List ℕ) → Type 0
 RunsSession (Ok (ended.Script ending)) input written written' = ⊥
 RunsSession (Ok (ended.Threads ending)) input written written' = ⊥
 RunsSession (Ok (ended.Replay verdict)) input written written' = ⊥
+RunsSession (Ok (ended.Check checked)) input written written' = ⊥
 RunsSession (Ok ended.Session) input written written' = IsConversation input written written'
 RunsSession (Err fault) input written written' = IsConversationCut fault input written written'
 
@@ -112,6 +128,7 @@ Runs Script outcome input written written' = OfScript (λ ran. RunsScript ran in
 Runs (Run file) outcome input written written' = OfScript (λ ran. RunsScript ran input written written') outcome
 Runs (Threads file) outcome input written written' = OfThreads (λ ran. IsWritten ran input written written') outcome
 Runs (Replay file) outcome input written written' = OfReplay (λ ran. Replays ran input written written') outcome
+Runs (Check file) outcome input written written' = OfCheck (λ ran. Checks ran input written written') outcome
 Runs Session outcome input written written' = RunsSession outcome input written written'
 
 -- the task, to this outcome, with its input, and what was written before and after

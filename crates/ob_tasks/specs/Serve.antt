@@ -13,14 +13,14 @@ use Rattle.ob_tasks.specs.declared.end.End.TheVariants as ends
 use Rattle.ob_tasks.specs.declared.end.Ended.{Ended}
 use Rattle.ob_tasks.specs.Opening.{Follows, Opened, opened_as}
 use Rattle.ob_tasks.specs.Perform.{Performs, Told}
-use Rattle.ob_words.specs.Plan.{Named, named, ntns, replay, script, session, run, task_of, threads}
+use Rattle.ob_words.specs.Plan.{Named, check, named, ntns, replay, script, session, run, task_of, threads}
 use Rattle.ob_tasks.specs.Refuse.{Blames, Fails, Helps, IsRequest, Starves}
 use Rattle.ob_words.specs.declared.planning.Task.{Task}
 
 -- the words have no fault and name the file of this path
 abbrev pub AsksFor : List Text → Text → Type 0
 AsksFor words path = (task_of (subcommand_of ntns words) ≡ Some (run path))
-    ⊎ ((task_of (subcommand_of ntns words) ≡ Some (threads path)) ⊎ (task_of (subcommand_of ntns words) ≡ Some (replay path)))
+    ⊎ ((task_of (subcommand_of ntns words) ≡ Some (threads path)) ⊎ ((task_of (subcommand_of ntns words) ≡ Some (replay path)) ⊎ (task_of (subcommand_of ntns words) ≡ Some (check path))))
 
 -- what opening the file of a path may give, by a function that opens it
 abbrev pub Gives : {F I : Type 0} → Once F (Bor Text × Unit {0}) (Result I Error) → F → (I → Option (List ℕ)) → Text → Opened → Type 0
@@ -39,6 +39,7 @@ ServesNamed gives session task outcome line input written written' told told' = 
 ServesNamed gives (run path) task outcome line input written written' told told' = ServesFile gives path task outcome line written written' told told'
 ServesNamed gives (threads path) task outcome line input written written' told told' = ServesFile gives path task outcome line written written' told told'
 ServesNamed gives (replay path) task outcome line input written written' told told' = ServesFile gives path task outcome line written written' told told'
+ServesNamed gives (check path) task outcome line input written written' told told' = ServesFile gives path task outcome line written written' told told'
 
 -- the words have no fault, and name the task that is done
 pub record ServesTask (gives : Text → Opened → Type 0) (words : List Text) (end : End) (line : Told) (input written written' told told' : Option (List ℕ)) : Type 0 where

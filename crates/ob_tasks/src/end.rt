@@ -3,6 +3,7 @@
 ghost use Rattle.std.specs.Prelude.{◌≡◌};
 ghost use Rattle.ob_tasks.specs.End.{status_of};
 
+use ob_check::Checked;
 use ob_shell::Ending;
 use ob_streams::ShellFault;
 use ob_threads::ThreadsEnding;
@@ -17,6 +18,8 @@ pub enum Ended {
     Threads(ThreadsEnding),
     /// The check of a journal came to this verdict.
     Replay(Verdict),
+    /// The check of a script found this.
+    Check(Checked),
     /// The input of a session came to its end.
     Session,
 }
@@ -34,7 +37,7 @@ pub enum End {
 }
 
 impl End {
-    /// The program's status: 0 where the whole script was run, a session came to its end, a journal is accepted, or help or the version was written, 2 where
+    /// The program's status: 0 where the whole script was run, each line of a script that is checked is right, a session came to its end, a journal is accepted, or help or the version was written, 2 where
     /// the words are a mistake, 3 where a journal is refused, and else 1. (this profile)
     pub fn status(&self) -> u8
         ensures { result ≡ status_of self.now }
@@ -49,6 +52,8 @@ impl End {
             End::Task(Ok(Ended::Threads(ThreadsEnding::RefusedAt(_)))) => 1,
             End::Task(Ok(Ended::Replay(Verdict::Accepted))) => 0,
             End::Task(Ok(Ended::Replay(Verdict::Refused))) => 3,
+            End::Task(Ok(Ended::Check(Checked::Clean))) => 0,
+            End::Task(Ok(Ended::Check(Checked::Faulty))) => 1,
             End::Task(Ok(Ended::Session)) => 0,
             End::Task(Err(_)) => 1,
             End::Mistake => 2,

@@ -9,6 +9,7 @@ mod refusing;
 mod serving;
 
 pub use end::{End, Ended};
+pub use ob_check::Checked;
 pub use ob_shell::Ending;
 pub use ob_streams::{ShellFault, Unread, Unwritten};
 pub use ob_threads::ThreadsEnding;

@@ -10,6 +10,7 @@ ghost use Rattle.ob_tasks.specs.Perform.{Complains, Performs, Runs, SaysFront, S
 ghost use Rattle.ob_threads.specs.Written.{IsWritten};
 
 use crate::end::{End, Ended};
+use ob_check::run_check;
 use ob_session::run_session;
 use ob_shell::run_script;
 use ob_streams::{ShellFault, Unwritten, write_out};
@@ -23,7 +24,7 @@ use std::sync::Wait;
 use std::sync::ledger::Blank;
 use std::thread::Threads;
 
-/// Does the task, and tells how it ended: the ending of its kind of run, the verdict on a journal, or the fault that ended the task; and
+/// Does the task, and tells how it ended: the ending of its kind of run, the verdict on a journal, what a check of a script found, or the fault that ended the task; and
 /// whether what standard error has to say of that was written whole.
 ///
 /// The input is the reader, which is standard input or the file that was opened for the task, and
@@ -91,6 +92,10 @@ fn run_task<H: Threads + Wait + Sync, R: Read, W: Write>(
         },
         Task::Replay(_) => match run_replay(alloc, reader, writer) {
             Ok(verdict) => Ok(Ended::Replay(verdict)),
+            Err(fault) => Err(fault),
+        },
+        Task::Check(_) => match run_check(alloc, reader, writer) {
+            Ok(checked) => Ok(Ended::Check(checked)),
             Err(fault) => Err(fault),
         },
         Task::Session => unreachable!(),

@@ -20,7 +20,7 @@ use std::thread::Threads;
 /// written whole. The first word is the program's name.
 ///
 /// Where the words name a task and have no fault, it is done: `Script` and `Session` over the reader, and `Run`,
-/// `Threads` and `Replay` over the file that `opener` gives for their path. Nothing else is opened: `opener` need only be
+/// `Threads`, `Replay` and `Check` over the file that `opener` gives for their path. Nothing else is opened: `opener` need only be
 /// callable at the path that the words name, and is called for no script on standard input. A file
 /// that could not be opened is told as `perform_opened` says. A fault of the words is told instead,
 /// and out of memory before there was a task. (this profile)
@@ -53,7 +53,7 @@ pub fn serve<
             let (outcome, told) = match task {
                 Task::Script => perform(rt, alloc, task, reader, writer, errors),
                 Task::Session => converse(alloc, reader, writer, errors),
-                Task::Run(file) | Task::Threads(file) | Task::Replay(file) => {
+                Task::Run(file) | Task::Threads(file) | Task::Replay(file) | Task::Check(file) => {
                     let opened = opener(file);
                     perform_opened(rt, alloc, task, opened, writer, errors)
                 }

@@ -10,7 +10,7 @@ use Rattle.clap.specs.declared.error.Error.{Error}
 use Rattle.clap.specs.Words.{App, HasKind, Row, Text, built, fault_of, first_of, is_simple, is_simple_and_free, new_app, subcommand_of, with_rule}
 use Rattle.clap.proofs.OnLiterals.{clap_on_literals}
 use Rattle.clap.proofs.WalkLemmas.{walk_stopped}
-use Rattle.ob_words.specs.Plan.{IsFileIn, IsNothingMore, Named, Spells, file_rule, ntns, replay, run, script, session, task_of, threads}
+use Rattle.ob_words.specs.Plan.{IsFileIn, IsNothingMore, Named, Spells, check, file_rule, ntns, replay, run, script, session, task_of, threads}
 use Rattle.ob_words.proofs.Flags.{HasOnlyRequests, dashes, dashes_alone, help, long_is_plain, or_else_next, or_else_none, version}
 
 -- the program, as the parser builds it
@@ -28,6 +28,9 @@ threads_word = codes "threads"
 
 abbrev replay_word : Text
 replay_word = codes "replay"
+
+abbrev check_word : Text
+check_word = codes "check"
 
 abbrev session_word : Text
 session_word = codes "session"
@@ -51,6 +54,9 @@ threads_name = (threads_word, [])
 abbrev replay_name : Text × List Text
 replay_name = (replay_word, [])
 
+abbrev check_name : Text × List Text
+check_name = (check_word, [])
+
 abbrev session_name : Text × List Text
 session_name = (session_word, [])
 
@@ -58,42 +64,46 @@ abbrev help_name : Text × List Text
 help_name = (help_word, [])
 
 -- the subcommand that a word names, by the names
-abbrev met_by : Bool → Bool → Bool → Bool → Bool → Option Text
-met_by is_run is_threads is_replay is_session is_help = option_map (λ s. s.0)
+abbrev met_by : Bool → Bool → Bool → Bool → Bool → Bool → Option Text
+met_by is_run is_threads is_replay is_check is_session is_help = option_map (λ s. s.0)
     (if is_run || false then Some run_name else (if is_threads || false then Some threads_name
-    else (if is_replay || false then Some replay_name else (if is_session || false then Some session_name
-    else (if is_help || false then Some help_name else None)))))
+    else (if is_replay || false then Some replay_name else (if is_check || false then Some check_name
+    else (if is_session || false then Some session_name else (if is_help || false then Some help_name else None))))))
 
--- a first word is `run`, `threads`, `replay`, `session` or `--`
-abbrev IsFirst : Bool → Bool → Bool → Bool → Text → Type 0
-IsFirst is_run is_threads is_replay is_session word =
-    (is_run ≡ true) ⊎ ((is_threads ≡ true) ⊎ ((is_replay ≡ true) ⊎ ((is_session ≡ true) ⊎ (word ≡ dashes))))
+-- a first word is `run`, `threads`, `replay`, `check`, `session` or `--`
+abbrev IsFirst : Bool → Bool → Bool → Bool → Bool → Text → Type 0
+IsFirst is_run is_threads is_replay is_check is_session word =
+    (is_run ≡ true) ⊎ ((is_threads ≡ true) ⊎ ((is_replay ≡ true) ⊎ ((is_check ≡ true) ⊎ ((is_session ≡ true) ⊎ (word ≡ dashes)))))
 
-first_turn : (is_run is_threads is_replay is_session is_help : Bool) (word : Text)
-    → or_else (other_fault top (met_by is_run is_threads is_replay is_session is_help) word nothing_held)
+first_turn : (is_run is_threads is_replay is_check is_session is_help : Bool) (word : Text)
+    → or_else (other_fault top (met_by is_run is_threads is_replay is_check is_session is_help) word nothing_held)
     (step_fault top 1
-    (subcommand_or_other top.rules (met_by is_run is_threads is_replay is_session is_help) idle 1 word nothing_held).0
-    (subcommand_or_other top.rules (met_by is_run is_threads is_replay is_session is_help) idle 1 word nothing_held).1) ≡ []
-    → IsFirst is_run is_threads is_replay is_session word
-first_turn true is_threads is_replay is_session is_help word none = inl refl
-first_turn false true is_replay is_session is_help word none = inr (inl refl)
-first_turn false false true is_session is_help word none = inr (inr (inl refl))
-first_turn false false false true is_help word none = inr (inr (inr (inl refl)))
-first_turn false false false false true word none = cc
-first_turn false false false false false word none = inr (inr (inr (inr (dashes_alone top top_has_only_requests 1 refl None word none))))
+    (subcommand_or_other top.rules (met_by is_run is_threads is_replay is_check is_session is_help) idle 1 word nothing_held).0
+    (subcommand_or_other top.rules (met_by is_run is_threads is_replay is_check is_session is_help) idle 1 word nothing_held).1) ≡ []
+    → IsFirst is_run is_threads is_replay is_check is_session word
+first_turn true is_threads is_replay is_check is_session is_help word none = inl refl
+first_turn false true is_replay is_check is_session is_help word none = inr (inl refl)
+first_turn false false true is_check is_session is_help word none = inr (inr (inl refl))
+first_turn false false false true is_session is_help word none = inr (inr (inr (inl refl)))
+first_turn false false false false true is_help word none = inr (inr (inr (inr (inl refl))))
+first_turn false false false false false true word none = cc
+first_turn false false false false false false word none =
+    inr (inr (inr (inr (inr (dashes_alone top top_has_only_requests 1 refl None word none)))))
 
 -- what a first word without a fault is
 abbrev IsFirstWord : Text → Type 0
-IsFirstWord word = (word ≡ run_word) ⊎ ((word ≡ threads_word) ⊎ ((word ≡ replay_word) ⊎ ((word ≡ session_word) ⊎ (word ≡ dashes))))
+IsFirstWord word =
+    (word ≡ run_word) ⊎ ((word ≡ threads_word) ⊎ ((word ≡ replay_word) ⊎ ((word ≡ check_word) ⊎ ((word ≡ session_word) ⊎ (word ≡ dashes)))))
 
 first_word : (word : Text) → turn_fault top names (walk_from nothing_held) word ≡ [] → IsFirstWord word
 first_word word none =
-    elim (first_turn (bytes_eq run_word word) (bytes_eq threads_word word) (bytes_eq replay_word word) (bytes_eq session_word word) (bytes_eq help_word word) word none) [
+    elim (first_turn (bytes_eq run_word word) (bytes_eq threads_word word) (bytes_eq replay_word word) (bytes_eq check_word word) (bytes_eq session_word word) (bytes_eq help_word word) word none) [
       | inl is_run ↦ inl (sym ((bytes_eq-Decides run_word word).0 is_run))
       | inr (inl is_threads) ↦ inr (inl (sym ((bytes_eq-Decides threads_word word).0 is_threads)))
       | inr (inr (inl is_replay)) ↦ inr (inr (inl (sym ((bytes_eq-Decides replay_word word).0 is_replay))))
-      | inr (inr (inr (inl is_session))) ↦ inr (inr (inr (inl (sym ((bytes_eq-Decides session_word word).0 is_session)))))
-      | inr (inr (inr (inr is_dashes))) ↦ inr (inr (inr (inr is_dashes)))
+      | inr (inr (inr (inl is_check))) ↦ inr (inr (inr (inl (sym ((bytes_eq-Decides check_word word).0 is_check)))))
+      | inr (inr (inr (inr (inl is_session)))) ↦ inr (inr (inr (inr (inl (sym ((bytes_eq-Decides session_word word).0 is_session))))))
+      | inr (inr (inr (inr (inr is_dashes)))) ↦ inr (inr (inr (inr (inr is_dashes))))
     ]
 
 -- ---- the words behind a subcommand
@@ -208,6 +218,10 @@ left_to_replay : (rest : List Text) → stop_after top.rules names (replay_word 
 unfolding walked
 left_to_replay rest = sym (ap (λ (w : Walk). w.stopped) (walk_stopped top.rules names (walk_from nothing_held) replay_word [] rest))
 
+left_to_check : (rest : List Text) → stop_after top.rules names (check_word ∷ rest) ≡ Some (check_word, rest)
+unfolding walked
+left_to_check rest = sym (ap (λ (w : Walk). w.stopped) (walk_stopped top.rules names (walk_from nothing_held) check_word [] rest))
+
 left_to_session : (rest : List Text) → stop_after top.rules names (session_word ∷ rest) ≡ Some (session_word, rest)
 unfolding walked
 left_to_session rest = sym (ap (λ (w : Walk). w.stopped) (walk_stopped top.rules names (walk_from nothing_held) session_word [] rest))
@@ -239,6 +253,13 @@ names_replay name rest none =
     let found : NamesFile replay_word rest = names_file replay_word rest below in
     let rows : subcommand_of ntns (name ∷ replay_word ∷ rest) ≡ Some (replay_word, rows_after (inner replay_word).rules [] rest) = ap (entered (built ntns)) (left_to_replay rest) in
     (replay found.0, (ap task_of rows ∙ ap (option_map replay) found.1.0, (refl, found.1.1)))
+
+names_check : (name : Text) (rest : List Text) → fault_of ntns (name ∷ check_word ∷ rest) ≡ [] → NamesTask (name ∷ check_word ∷ rest)
+names_check name rest none =
+    let below : no_fault check_word rest = subst (λ stop. entered_fault (built ntns) stop ≡ []) (left_to_check rest) (no_fault_below name (check_word ∷ rest) none) in
+    let found : NamesFile check_word rest = names_file check_word rest below in
+    let rows : subcommand_of ntns (name ∷ check_word ∷ rest) ≡ Some (check_word, rows_after (inner check_word).rules [] rest) = ap (entered (built ntns)) (left_to_check rest) in
+    (check found.0, (ap task_of rows ∙ ap (option_map check) found.1.0, (refl, found.1.1)))
 
 -- the subcommand `session`, as the parser builds it
 abbrev alone : Shape
@@ -291,8 +312,10 @@ names_by name word rest none (inr (inl same)) =
 names_by name word rest none (inr (inr (inl same))) =
     subst (λ w. NamesTask (name ∷ w ∷ rest)) (sym same) (names_replay name rest (subst (λ w. fault_of ntns (name ∷ w ∷ rest) ≡ []) same none))
 names_by name word rest none (inr (inr (inr (inl same)))) =
+    subst (λ w. NamesTask (name ∷ w ∷ rest)) (sym same) (names_check name rest (subst (λ w. fault_of ntns (name ∷ w ∷ rest) ≡ []) same none))
+names_by name word rest none (inr (inr (inr (inr (inl same))))) =
     subst (λ w. NamesTask (name ∷ w ∷ rest)) (sym same) (names_session name rest (subst (λ w. fault_of ntns (name ∷ w ∷ rest) ≡ []) same none))
-names_by name word rest none (inr (inr (inr (inr same)))) =
+names_by name word rest none (inr (inr (inr (inr (inr same))))) =
     subst (λ w. NamesTask (name ∷ w ∷ rest)) (sym same) (names_dashes name rest (subst (λ w. fault_of ntns (name ∷ w ∷ rest) ≡ []) same none))
 
 first_turn_passes : (name word : Text) (rest : List Text) → fault_of ntns (name ∷ word ∷ rest) ≡ [] → turn_fault top names (walk_from nothing_held) word ≡ []

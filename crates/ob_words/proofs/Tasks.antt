@@ -9,7 +9,7 @@ use Rattle.clap.specs.declared.parser.matches.ArgMatches.TheViews.{out-ArgMatche
 use Rattle.clap.specs.declared.parser.matches.Found.{Found}
 use Rattle.clap.specs.declared.parser.matches.SubCommand.{SubCommand}
 use Rattle.clap.proofs.WalkLemmas.{first_value-rows}
-use Rattle.ob_words.specs.Plan.{Named, replay, run, task_of, threads}
+use Rattle.ob_words.specs.Plan.{Named, check, replay, run, task_of, threads}
 
 -- a subcommand with its name and its rows
 used_as : {Z : Type 0} (used : Option (Box SubCommand Z)) (name : Text) (rows : List Row)
@@ -30,12 +30,19 @@ threads_is_named name rows is_threads =
     subst (λ word. task_of (Some (word, rows)) ≡ option_map threads (first_of (codes "FILE") rows))
     (sym ((bytes_eq-Decides name (codes "threads")).0 is_threads)) refl
 
--- and so does the subcommand `replay`
+-- so does the subcommand `replay`
 replay_is_named : (name : Text) (rows : List Row) → bytes_eq name (codes "replay") ≡ true
     → task_of (Some (name, rows)) ≡ option_map replay (first_of (codes "FILE") rows)
 replay_is_named name rows is_replay =
     subst (λ word. task_of (Some (word, rows)) ≡ option_map replay (first_of (codes "FILE") rows))
     (sym ((bytes_eq-Decides name (codes "replay")).0 is_replay)) refl
+
+-- and so does the subcommand `check`
+check_is_named : (name : Text) (rows : List Row) → bytes_eq name (codes "check") ≡ true
+    → task_of (Some (name, rows)) ≡ option_map check (first_of (codes "FILE") rows)
+check_is_named name rows is_check =
+    subst (λ word. task_of (Some (word, rows)) ≡ option_map check (first_of (codes "FILE") rows))
+    (sym ((bytes_eq-Decides name (codes "check")).0 is_check)) refl
 
 -- so matches with a subcommand that names a task name that of the path in its matches
 task_of_file : (make : Text → Named) (m : ArgMatches) (name : Text) (inside : Found) (file : Option Text)
@@ -62,10 +69,18 @@ pub task_of_threads : (m : ArgMatches) (name : Text) (inside : Found) (file : Op
 task_of_threads m name inside file same_name same_rows is_threads =
     task_of_file threads m name inside file same_name same_rows (threads_is_named name (rows_of inside) is_threads)
 
--- and by `replay`
+-- by `replay`
 pub task_of_replay : (m : ArgMatches) (name : Text) (inside : Found) (file : Option Text)
     → Some name ≡ subcommand_name_of m → Some (rows_of inside) ≡ option_map (λ p. p.1) (subcommand_rows_of m)
     → bytes_eq name (codes "replay") ≡ true → file ≡ first_value inside (codes "FILE")
     → option_map replay file ≡ task_of (subcommand_rows_of m)
 task_of_replay m name inside file same_name same_rows is_replay =
     task_of_file replay m name inside file same_name same_rows (replay_is_named name (rows_of inside) is_replay)
+
+-- and by `check`
+pub task_of_check : (m : ArgMatches) (name : Text) (inside : Found) (file : Option Text)
+    → Some name ≡ subcommand_name_of m → Some (rows_of inside) ≡ option_map (λ p. p.1) (subcommand_rows_of m)
+    → bytes_eq name (codes "check") ≡ true → file ≡ first_value inside (codes "FILE")
+    → option_map check file ≡ task_of (subcommand_rows_of m)
+task_of_check m name inside file same_name same_rows is_check =
+    task_of_file check m name inside file same_name same_rows (check_is_named name (rows_of inside) is_check)

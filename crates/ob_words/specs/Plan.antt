@@ -28,6 +28,10 @@ threads_app = with_rule (new_app (codes "threads")) file_rule
 abbrev pub replay_app : App
 replay_app = with_rule (new_app (codes "replay")) file_rule
 
+-- the subcommand `check`
+abbrev pub check_app : App
+check_app = with_rule (new_app (codes "check")) file_rule
+
 -- the subcommand `session`, which takes no word
 abbrev pub session_app : App
 session_app = new_app (codes "session")
@@ -36,9 +40,11 @@ session_app = new_app (codes "session")
 abbrev pub with_version : App → App
 with_version app = on_top (λ shape. record shape { has_version = true }) app
 
--- the program: it has the subcommands `run`, `threads`, `replay` and `session`, a version, what the parser adds to ask for help, and nothing else
+-- the program: it has the subcommands `run`, `threads`, `replay`, `check` and `session`, a version, what the parser adds to ask for help, and nothing else
 abbrev pub ntns : App
-ntns = with_version (with_subcommand (with_subcommand (with_subcommand (with_subcommand (new_app (codes "ntns")) run_app.top) threads_app.top) replay_app.top) session_app.top)
+ntns = with_version
+    (with_subcommand (with_subcommand (with_subcommand (with_subcommand (with_subcommand (new_app (codes "ntns")) run_app.top) threads_app.top) replay_app.top) check_app.top)
+    session_app.top)
 
 -- a text that help shows, where there is one
 abbrev pub text_of : Option (Bor Text) → Option Text
@@ -66,7 +72,7 @@ ntns_about = codes "Runs a script of namespace commands, by default from standar
 
 -- an example of each task
 abbrev pub ntns_examples : Text
-ntns_examples = codes "Examples:\n  ntns < script.ntns                       Runs the script on standard input\n  ntns run script.ntns                     Runs the script in a file\n  ntns threads workers.ntns > journal.txt  Runs a script with workers, and keeps its journal\n  ntns replay journal.txt                  Checks that journal\n  ntns session                             Replies to each line as it is typed"
+ntns_examples = codes "Examples:\n  ntns < script.ntns                       Runs the script on standard input\n  ntns run script.ntns                     Runs the script in a file\n  ntns threads workers.ntns > journal.txt  Runs a script with workers, and keeps its journal\n  ntns replay journal.txt                  Checks that journal\n  ntns check script.ntns                   Reports the lines that are wrong, and runs none\n  ntns session                             Replies to each line as it is typed"
 
 abbrev pub run_about : Text
 run_about = codes "Runs the script in FILE"
@@ -76,6 +82,9 @@ threads_about = codes "Runs the script with workers in FILE, and prints its jour
 
 abbrev pub replay_about : Text
 replay_about = codes "Checks the journal in FILE, and prints the verdict"
+
+abbrev pub check_about : Text
+check_about = codes "Reports each line of the script in FILE that is wrong, and its column, and runs none"
 
 abbrev pub session_about : Text
 session_about = codes "Runs each line of standard input as it comes, and prints its reply before it reads the next one"
@@ -89,6 +98,7 @@ pub data Named : Type 0 where
   run : Text → Named
   threads : Text → Named
   replay : Text → Named
+  check : Text → Named
   session : Named
 
 abbrev pub named : Task → Named
@@ -96,6 +106,7 @@ named task.Script = script
 named (task.Run file) = run file.now
 named (task.Threads file) = threads file.now
 named (task.Replay file) = replay file.now
+named (task.Check file) = check file.now
 named task.Session = session
 
 -- the task that a subcommand names, where there is one
@@ -104,7 +115,8 @@ task_of None = Some script
 task_of (Some used) = if bytes_eq used.0 (codes "run") then option_map run (first_of (codes "FILE") used.1)
     else (if bytes_eq used.0 (codes "threads") then option_map threads (first_of (codes "FILE") used.1)
     else (if bytes_eq used.0 (codes "replay") then option_map replay (first_of (codes "FILE") used.1)
-    else (if bytes_eq used.0 (codes "session") then Some session else None)))
+    else (if bytes_eq used.0 (codes "check") then option_map check (first_of (codes "FILE") used.1)
+    else (if bytes_eq used.0 (codes "session") then Some session else None))))
 
 -- no word follows the program's name, or `--` alone, which ends the flags
 abbrev pub IsBare : List Text → Type 0
@@ -144,6 +156,7 @@ Spells words script = IsBare words
 Spells words (run file) = IsOverFile (codes "run") file words
 Spells words (threads file) = IsOverFile (codes "threads") file words
 Spells words (replay file) = IsOverFile (codes "replay") file words
+Spells words (check file) = IsOverFile (codes "check") file words
 Spells words session = IsAlone (codes "session") words
 
 -- a mistake in the words, or a lack of memory

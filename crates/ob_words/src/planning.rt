@@ -3,7 +3,7 @@
 ghost use Rattle.std.specs.Prelude.{◌≡◌, ◌≤◌, true, false, Some, IfOk, IfErr, length, map, option_map};
 ghost use Rattle.clap.specs.Words.{FailsBy, app_of, fault_of, kind_of, rule_of, subcommand_of, subcommand_rows_of, takes};
 ghost use Rattle.clap.specs.declared.builder.command.Command.TheViews.{out-Command as fields_of};
-ghost use Rattle.ob_words.specs.Plan.{IsMistakeOrWant, Spells, about_of, examples_of, file_help, file_rule, named, ntns, ntns_about, ntns_examples, ntns_version, replay_about, replay_app, run_about, run_app, session_about, session_app, task_of, text_of, threads_about, threads_app, version_of};
+ghost use Rattle.ob_words.specs.Plan.{IsMistakeOrWant, Spells, about_of, check_about, check_app, examples_of, file_help, file_rule, named, ntns, ntns_about, ntns_examples, ntns_version, replay_about, replay_app, run_about, run_app, session_about, session_app, task_of, text_of, threads_about, threads_app, version_of};
 
 use clap::error::ErrorKind;
 use clap::{Arg, ArgMatches, Command, Error};
@@ -21,6 +21,8 @@ pub enum Task<'a> {
     Threads(&'a str),
     /// Check the journal in the file of this path, and print the verdict.
     Replay(&'a str),
+    /// Check the lines of the script in the file of this path, which may have workers, and print where each stops that is wrong.
+    Check(&'a str),
     /// Run each line of standard input as it comes, and print its reply before the next one is read.
     Session,
 }
@@ -29,7 +31,7 @@ pub enum Task<'a> {
 ///
 /// It is `Script` where no word follows the program's name, or `--` alone, and `Run` where
 /// these are `run` and a path, which is taken as it is, with `--` before or after it or without;
-/// so it is `Threads` where they are `threads` and a path, `Replay` where they are `replay` and a path, and `Session` where they are `session` alone. The task is what the parser
+/// so it is `Threads` where they are `threads` and a path, `Replay` where they are `replay` and a path, `Check` where they are `check` and a path, and `Session` where they are `session` alone. The task is what the parser
 /// `clap` states for these words and the program as `ntns` describes it. The faults are clap's: of the kinds that clap states for the words, which are mistakes, or
 /// the request for help or for the version; or out of memory, which alone can refuse words that name a task, as no
 /// words after the program's name do. (this profile)
@@ -73,6 +75,10 @@ fn task_in<'a>(matches: &ArgMatches<'a>) -> Option<Task<'a>>
             Some(file) => Some(Task::Replay(file)),
             None => None,
         },
+        Some((name, inside)) if name == "check" => match inside.get_str("FILE") {
+            Some(file) => Some(Task::Check(file)),
+            None => None,
+        },
         Some((name, _)) if name == "session" => Some(Task::Session),
         Some(_) => None,
     }
@@ -104,11 +110,13 @@ fn program<'a>(alloc: Global) -> Result<Command<'a>, AllocError>
     let run = run_command(alloc)?;
     let threads = threads_command(alloc)?;
     let replay = replay_command(alloc)?;
+    let check = check_command(alloc)?;
     let session = session_command(alloc);
     let program = Command::new(alloc, "ntns")
         .subcommand(run)?
         .subcommand(threads)?
         .subcommand(replay)?
+        .subcommand(check)?
         .subcommand(session)?;
     Ok(
         program
@@ -122,6 +130,7 @@ fn program<'a>(alloc: Global) -> Result<Command<'a>, AllocError>
   ntns run script.ntns                     Runs the script in a file
   ntns threads workers.ntns > journal.txt  Runs a script with workers, and keeps its journal
   ntns replay journal.txt                  Checks that journal
+  ntns check script.ntns                   Reports the lines that are wrong, and runs none
   ntns session                             Replies to each line as it is typed",
             ),
     )
@@ -155,6 +164,18 @@ fn replay_command<'a>(alloc: Global) -> Result<Command<'a>, AllocError>
 {
     let replay = Command::new(alloc, "replay").arg(file_argument(alloc))?;
     Ok(replay.about("Checks the journal in FILE, and prints the verdict"))
+}
+
+// The subcommand `check`.
+fn check_command<'a>(alloc: Global) -> Result<Command<'a>, AllocError>
+    ensures app { IfOk result (λ command. app_of command ≡ check_app) }
+    ensures local { IfOk result (λ command. (fields_of command).has_globals ≡ false) }
+    ensures about { IfOk result (λ command. about_of command ≡ Some check_about) }
+{
+    let check = Command::new(alloc, "check").arg(file_argument(alloc))?;
+    Ok(check.about(
+        "Reports each line of the script in FILE that is wrong, and its column, and runs none",
+    ))
 }
 
 // The subcommand `session`.

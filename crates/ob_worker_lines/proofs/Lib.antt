@@ -4,3 +4,4 @@ pub mod Bad
 pub mod Whole
 pub mod Forms
 pub mod SoFar
+pub mod Righted

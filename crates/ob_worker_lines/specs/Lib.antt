@@ -1,3 +1,4 @@
 pub mod Cuts
 pub mod Forms
 pub mod Parts
+pub mod Phases

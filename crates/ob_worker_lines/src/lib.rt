@@ -10,10 +10,12 @@
 mod form;
 mod line;
 mod part;
+mod phase;
 mod script;
 
 pub use form::{SeatForm, read_seat_line, seat_lines_have_one_form};
 pub use part::Part;
+pub use phase::{Phase, judge_line, right_scripts_are_cut};
 pub use script::{
     CutFault, MOST_WORKERS, WorkerScript, cut, lines_of_parts_are_read, scripts_have_one_cut,
 };

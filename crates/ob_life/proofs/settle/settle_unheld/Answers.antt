@@ -43,7 +43,7 @@ returns-clause-settled g c =
     settled_gone g.row.T-Kind.Denot g.T.TypeSet.procedures (parts c.space.inside) c.args.id c.len.ensures.store
     (ap (λ s. has_handle s c.args.id) c.space.view_is ∙ c.requires.unheld) c.args.standing.now
     (c.requires.told ∙ ap (λ s. standing_among s.objects s.rows c.args.id) (sym c.space.view_is)) c.forget_unkept.new.store c.forget_unkept.ensures
-    _ c.delete_object.ensures
+    _ c.delete_object.ensures.gone
     (held_told g.row.T-Kind.Denot g.T.TypeSet.procedures (parts c.space.inside) c.args.id c.len.ensures.store
     (ap (λ s. has_handle s c.args.id) c.space.view_is ∙ c.requires.unheld) c.args.standing.now
     (c.requires.told ∙ ap (λ s. standing_among s.objects s.rows c.args.id) (sym c.space.view_is)) c.forget_unkept.new.store c.forget_unkept.ensures
@@ -55,7 +55,7 @@ returns-clause-shadow g c =
     shadow_gone g.row.T-Kind.Denot g.T.TypeSet.procedures (parts c.space.inside) c.args.id c.len.ensures.store
     (ap (λ s. has_handle s c.args.id) c.space.view_is ∙ c.requires.unheld) c.args.standing.now
     (c.requires.told ∙ ap (λ s. standing_among s.objects s.rows c.args.id) (sym c.space.view_is)) c.forget_unkept.new.store c.forget_unkept.ensures
-    _ c.shadow_of-shadow.ensures
+    _ c.delete_object.ensures.shadow
     (held_told g.row.T-Kind.Denot g.T.TypeSet.procedures (parts c.space.inside) c.args.id c.len.ensures.store
     (ap (λ s. has_handle s c.args.id) c.space.view_is ∙ c.requires.unheld) c.args.standing.now
     (c.requires.told ∙ ap (λ s. standing_among s.objects s.rows c.args.id) (sym c.space.view_is)) c.forget_unkept.new.store c.forget_unkept.ensures

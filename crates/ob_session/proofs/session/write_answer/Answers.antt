@@ -2,8 +2,8 @@
 use Rattle.std.proofs.Common.{Result, Ok, Err, IfErr, subst, rules}
 use Rattle.ob_streams.specs.Writing.{AppendsFront}
 use Rattle.ob_shell.specs.Running.{outcome_text}
-use Rattle.ob_shell.specs.Gathering.{Gathers}
-use Rattle.ob_shell.proofs.Gathered.{gathers_out, gathers_out_front}
+use Rattle.ob_output.specs.Gathering.{Gathers}
+use Rattle.ob_output.proofs.Gathered.{gathers_out, gathers_out_front}
 use Rattle.ob_session.proofs.session.write_answer.Goals as goal
 
 on_any_err : {T E : Type 0} (P : Type 0) (r : Result T E) → P → IfErr r (λ _. P)

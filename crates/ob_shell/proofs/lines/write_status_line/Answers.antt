@@ -1,6 +1,6 @@
 -- Room is made first; where that isn't written, a beginning of the block stands.
 use Rattle.ob_streams.proofs.Writers.{at_err, front-append}
-use Rattle.ob_shell.proofs.Gathered.{gathers_room}
+use Rattle.ob_output.proofs.Gathered.{gathers_room}
 use Rattle.ob_shell.proofs.lines.write_status_line.Goals as goal
 
 pub returns-in_err-make_room-clause-front : goal.returns-in_err-make_room-clause-front

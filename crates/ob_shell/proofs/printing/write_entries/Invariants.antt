@@ -1,7 +1,7 @@
 use Rattle.std.proofs.Common.{◌≤◌, drop}
 use Rattle.std.specs.Vec.{vec_capacity}
 use Rattle.ob_output.specs.Printed.{entries_text}
-use Rattle.ob_shell.proofs.Gathered.{GathersUpTo}
+use Rattle.ob_output.proofs.Gathered.{GathersUpTo}
 use Rattle.ob_shell.proofs.printing.write_entries.Given as goal
 
 abbrev pub invariant-loop-entry : goal.invariant-loop-entry

@@ -1,7 +1,7 @@
 -- An entry is a quote, its name, a quote and its type's name; where a write fails, a beginning of it stands.
 use Rattle.std.proofs.Common.{◌∙◌}
 use Rattle.ob_streams.proofs.Writers.{at_err, at_err_weaker}
-use Rattle.ob_shell.proofs.Gathered.{at_ok_weaker}
+use Rattle.ob_output.proofs.Gathered.{at_ok_weaker}
 use Rattle.ob_shell.proofs.Listed.{left_all, left_front, quote_more, quote_front, name_more, name_front, close_more, close_front}
 use Rattle.ob_shell.proofs.printing.write_long_entry.Goals as goal
 

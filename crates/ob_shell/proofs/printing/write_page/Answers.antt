@@ -1,7 +1,7 @@
 -- The line is its front, its entries and its end; where a write fails, a beginning of it stands.
 use Rattle.std.proofs.Common.{codes, refl}
 use Rattle.ob_streams.proofs.Writers.{at_err, at_err_weaker}
-use Rattle.ob_shell.proofs.Gathered.{at_ok_weaker}
+use Rattle.ob_output.proofs.Gathered.{at_ok_weaker}
 use Rattle.ob_shell.proofs.Listed.{left_all, left_front, page_more, page_first, listed_more, listed_front}
 use Rattle.ob_shell.proofs.printing.write_page.Goals as goal
 

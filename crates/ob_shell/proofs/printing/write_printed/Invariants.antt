@@ -1,7 +1,7 @@
 use Rattle.std.proofs.Common.{◌≤◌, length}
 use Rattle.std.specs.Vec.{vec_capacity}
 use Rattle.ob_output.specs.Printed.{printed_bytes}
-use Rattle.ob_shell.proofs.Gathered.{GathersUpTo}
+use Rattle.ob_output.proofs.Gathered.{GathersUpTo}
 use Rattle.ob_shell.proofs.printing.write_printed.Given as goal
 
 abbrev pub invariant-loop-rest : goal.invariant-loop-rest

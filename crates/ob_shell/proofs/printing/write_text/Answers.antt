@@ -1,7 +1,7 @@
 -- The line is its front, its text and its end; where a write fails, a beginning of it stands.
 use Rattle.std.proofs.Common.{refl}
 use Rattle.ob_streams.proofs.Writers.{at_err, at_err_weaker}
-use Rattle.ob_shell.proofs.Gathered.{at_ok_weaker}
+use Rattle.ob_output.proofs.Gathered.{at_ok_weaker}
 use Rattle.ob_shell.proofs.Told.{told_whole, told_first, told_second, told_third}
 use Rattle.ob_shell.proofs.printing.write_text.Goals as goal
 

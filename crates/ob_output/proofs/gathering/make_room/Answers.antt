@@ -2,7 +2,7 @@
 use Rattle.std.proofs.Common.{subst}
 use Rattle.ob_streams.specs.Writing.{AppendsFront}
 use Rattle.ob_streams.proofs.Writers.{at_err}
-use Rattle.ob_shell.proofs.gathering.make_room.Goals as goal
+use Rattle.ob_output.proofs.gathering.make_room.Goals as goal
 
 pub returns-in_err-write_out-clause-front : goal.returns-in_err-write_out-clause-front
 returns-in_err-write_out-clause-front g c =

@@ -1,13 +1,14 @@
 //! Writing the output: in blocks, each of them once.
 
 ghost use Rattle.std.specs.Prelude.{◌≡◌, ◌+◌, ◌≤◌, [], ◌++◌, length, vec_len, vec_capacity, OnOk, OnErr};
-ghost use Rattle.ob_shell.specs.Gathering.{Gathers};
+ghost use Rattle.ob_output.specs.Gathering.{Gathers};
 ghost use Rattle.ob_streams.specs.Writing.{AppendsFront};
 
 use ob_streams::{Unwritten, write_out};
 use std::io::Write;
 
-// Makes room for so many bytes in a block: where it has none, the block is written and emptied.
+/// Makes room for so many bytes in a block: where it has none, the block is written and emptied. The fault is that of a write, after which a
+/// beginning of the block was written. (this profile)
 pub fn make_room<W: Write>(
     writer: &mut W,
     block: &mut Vec<u8>,
@@ -32,7 +33,8 @@ pub fn make_room<W: Write>(
     Ok(())
 }
 
-// Gathers the bytes in a block. Where the block has no room for them, it is written and emptied first.
+/// Gathers the bytes in a block. Where the block has no room for them, it is written and emptied first. The fault is that of a write, after which
+/// a beginning of the block was written. (this profile)
 pub fn gather<W: Write>(writer: &mut W, block: &mut Vec<u8>, bytes: &[u8]) -> Result<(), Unwritten>
     requires { length bytes.now ≤ vec_capacity block.old }
     ensures ok { OnOk result (Gathers (W.contents writer.old)

@@ -2,7 +2,7 @@
 use Rattle.std.proofs.Common.{◌≡◌, ◌∙◌, ℕ, List, [], ◌++◌, refl, ap, sym, append_assoc, append-nil, subst, Option, Result, Ok, Err, OnOk}
 use Rattle.std.specs.Io.KnownBytes.{Appends}
 use Rattle.std.proofs.KnownBytes.{Appends-nil, Appends-trans}
-use Rattle.ob_shell.specs.Gathering.{Gathers}
+use Rattle.ob_output.specs.Gathering.{Gathers}
 use Rattle.ob_streams.specs.Writing.{AppendsFront}
 use Rattle.ob_streams.proofs.Writers.{front-append, append-front}
 

@@ -1,0 +1,8 @@
+-- Room is made first; where the block isn't written, a beginning of it is.
+use Rattle.ob_streams.proofs.Writers.{at_err, front-append}
+use Rattle.ob_check.proofs.check.report.Goals as goal
+
+pub returns-in_err-make_room-clause-front : goal.returns-in_err-make_room-clause-front
+returns-in_err-make_room-clause-front g c =
+    at_err c.from_residual.result _
+    (front-append (g.W.Write.contents c.args.writer.now) (g.W.Write.contents c.make_room.new.writer) c.args.block.now.items _ c.in_err-make_room.ensures.front)
