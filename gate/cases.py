@@ -3,6 +3,8 @@
 
 - `lines.txt`: lines that are no script line, each closed by a bar. Each is run alone, without workers and, except `thread` and
   `seal`, with them.
+- `misfits.txt`: lines that are none, each closed by a bar, and where it stops: the column, and what is expected there; `^0D` is the byte 0x0D.
+  `gate/misfits.py` makes more, by the forms of docs/script.md.
 - `scripts.txt`: scripts, each after a line `== NAME`. A row is a line and, after ` | `, its reply. If `| N letters` or `| N to M letters` follows the name,
   `@` is so many letters, and the script is run once for each number.
 - `lookups.txt`: such scripts of names that are looked up. `gate/lookups.py` makes more, by a plain search.
@@ -36,6 +38,7 @@ from concurrent.futures import ThreadPoolExecutor
 from pathlib import Path
 
 import lookups as searched
+import misfits
 import runs
 from crates import ROOT
 from runs import Case, Count, dialogue, fault_of_journal, in_full, parted, run, sections
@@ -222,6 +225,9 @@ def main():
             (Path(folder) / name).write_text(text)
         for table in (lines, scripts, lookups, objects, windows, requests, workers, journals, worked):
             count.add(table.__name__, pool.map(lambda case: case.fault(program, folder), table()))
+        rows = [row.removesuffix("|") for row in rows_of("lines.txt")]
+        asked = [row.partition(" | ")[0] for row in rows_of("requests.txt")]
+        count.add("where lines stop", misfits.faults(program, asked, rows))
         count.add("memory", faults_of_memory(program, folder))
         count.add("names that come and go", random_workers.faults_of_names(program, Path(folder)))
         count.add("random scripts with workers", pool.map(lambda seed: random_workers.fault_of_script(program, seed), range(random_workers.SCRIPTS)))

@@ -40,8 +40,8 @@ LINE_LIMIT, JOURNAL_LIMIT = 262_144, 268_435_456
 ENTRY_LIMIT, CLOSES = 1_048_576, 1_048_576 - 33
 
 # arguments of which one is an unknown command, or an unexpected argument, or a mistake that is reported in another way
-UNKNOWN = ("ntns", "RUN", "runs", "thread", "replays", "sessions")
-UNEXPECTED = (("-x",), ("--other",), ("--run",), *((command, *others) for command in ("run", "threads", "replay") for others in (("-x",), ("--version",), ("a", "b"))), ("session", "a"), ("session", "-x"))
+UNKNOWN = ("ntns", "RUN", "runs", "thread", "replays", "checks", "sessions")
+UNEXPECTED = (("-x",), ("--other",), ("--run",), *((command, *others) for command in ("run", "threads", "replay", "check") for others in (("-x",), ("--version",), ("a", "b"))), ("session", "a"), ("session", "-x"))
 MISTAKEN = (("-",), ("",), ("--", "run", "a"))
 
 
@@ -204,7 +204,7 @@ def faults_of_texts(program):
     shown, manual = run([program, "--help"]).output.decode(), MANUAL.read_text()
     tasks, options, examples = (re.findall(row, shown, re.MULTILINE) for row in (r"^  (?!ntns)([a-z]+) ", r"^  -(.), --([a-z]+)", r"^  (ntns .*?)  "))
     lines = [f".It Cm {task}" for task in tasks] + [f".It Fl {short} , Fl -{long}" for short, long in options] + [f".Dl {example}" for example in examples]
-    yield "" if (len(tasks), len(options), len(examples)) == (5, 2, 5) else f"help names {len(tasks)} tasks, {len(options)} options and {len(examples)} examples"
+    yield "" if (len(tasks), len(options), len(examples)) == (6, 2, 6) else f"help names {len(tasks)} tasks, {len(options)} options and {len(examples)} examples"
     yield from ("" if f"\n{line}" in manual else f"the manual page has no line {line!r}" for line in lines)
 
 

@@ -82,6 +82,8 @@ def cases(journal):
     yield Case("a script with workers that has a bad line", ("threads", "FILE"), BAD, "other")
     yield Case("a journal", ("replay", "FILE"), journal, "other")
     yield Case("a script that is no journal", ("replay", "FILE"), BAD, "other")
+    yield Case("the check of a script", ("check", "FILE"), BAD, "other")
+    yield Case("the check of a script of which much is wrong", ("check", "FILE"), b"no line\n" * 3_000, "other")
     yield Case("a file that isn't there", ("run", "missing"), kind="other")
     yield Case("help", ("--help",), kind="other")
     yield Case("the version", ("--version",), kind="other")

@@ -12,16 +12,16 @@ SESSIONS = {
         ("", ""),
         ("# a comment", ""),
         ("p1 name a", '4: SUCCESS "\\A"'),
-        ("no line", "5: not a script line"),
+        ("no line", "5: not a script line: column 4, a verb and its parts"),
         ("p1 close a", "6: SUCCESS"),
         ("stat", "7: objects 6 handles 0 opens 0 closes 0 deletes 0"),
     ],
     "a line may have a NUL, a CR or too many bytes, and is no script line then": [
-        ('p1 dir "\\A\0" - =a', "1: not a script line"),
-        ("stat\r", "2: not a script line"),
-        ("#" * 262_145, "3: not a script line"),
+        ('p1 dir "\\A\0" - =a', "1: not a script line: column 8, PLACE FLAGS =V"),
+        ("stat\r", "2: not a script line: column 1, P or stat"),
+        ("#" * 262_145, "3: not a script line: column 262145, the end of the line"),
         ("#" * 262_144, ""),
-        ("x" * (1 << 24), "5: not a script line"),
+        ("x" * (1 << 24), "5: not a script line: column 262145, the end of the line"),
         ("p1 close a", "6: INVALID_HANDLE"),
     ],
     "an open is pending from one line to another": [
@@ -59,7 +59,7 @@ def cases():
     """Runs of sessions whose input is there at once, or isn't there."""
     yield Case("a session of no line", ("session",), 0)
     yield Case("a session whose last line has no LF", ("session",), 0, b"1: objects 6 handles 0 opens 0 closes 0 deletes 0\n", script=b"stat")
-    yield Case("a session goes on after a line that is no script line", ("session",), 0, b"1: not a script line\n2: INVALID_HANDLE\n", script=b"no line\np1 close a\n")
+    yield Case("a session goes on after a line that is no script line", ("session",), 0, b"1: not a script line: column 4, a verb and its parts\n2: INVALID_HANDLE\n", script=b"no line\np1 close a\n")
 
 
 def faults(program):

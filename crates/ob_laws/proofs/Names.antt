@@ -1,6 +1,6 @@
 -- In every state of a run the rows rise by the ids of their objects, which were drawn; and the rows of later states whose
 -- objects were made before are rows of the state before.
-use Rattle.std.proofs.Common.{◌≡◌, ℕ, ◌<◌, ◌≤◌, ◌+◌, true, not, List, [], ◌∷◌, ◌++◌, All, Option, None, Some, MatchOption, sym, subst, refl, arith}
+use Rattle.std.proofs.Common.{◌≡◌, ℕ, ◌<◌, ◌≤◌, ◌+◌, true, not, List, [], ◌∷◌, ◌++◌, All, ◌⊎◌, inl, inr, Option, None, Some, MatchOption, sym, subst, refl, arith}
 use Rattle.std.specs.Prelude.{AllPairs, Contains}
 use Rattle.std.specs.Option.{option_map_or}
 use Rattle.std.proofs.lemmas.List.{append-nil}
@@ -46,21 +46,26 @@ pairs_push (x ∷ xs) r all pairs =
 
 module _ {K T F I : Type 0} (b : State K T F I) where
   -- what is kept of a state
-  abbrev Keeps : State K T F I → Type 0
-  Keeps t = (b.next_id ≤ t.next_id) × All (λ r. r.object < t.next_id) t.rows × AllPairs Less t.rows × All (λ r. r.object < b.next_id → Contains b.rows r) t.rows
+  abbrev IsOld : Row → Type 0
+  IsOld r = Contains b.rows r ⊎ ((b.next_id ≤ r.object) × (b.next_stamp ≤ r.stamp))
 
-  grown : (s t : State K T F I) → t.rows ≡ s.rows → s.next_id ≤ t.next_id → Keeps s → Keeps t
-  grown s t same more has = (
-    (let first = has.0 in omega (arith, first, more)),
-    subst (All (λ r. r.object < t.next_id)) (sym same) (All-weaker (λ (r : Row). r.object < s.next_id) (λ r. r.object < t.next_id) (λ r less. omega (arith, less, more)) s.rows has.1),
+  abbrev Keeps : State K T F I → Type 0
+  Keeps t = ((b.next_id ≤ t.next_id) × (b.next_stamp ≤ t.next_stamp)) × All (λ r. (r.object < t.next_id) × (r.stamp < t.next_stamp)) t.rows × AllPairs Less t.rows × All IsOld t.rows
+
+  grown : (s t : State K T F I) → t.rows ≡ s.rows → s.next_id ≤ t.next_id → t.next_stamp ≡ s.next_stamp → Keeps s → Keeps t
+  grown s t same more stamps has = (
+    ((let first = has.0.0 in omega (arith, first, more)), (let first = has.0.1 in omega (arith, first, stamps))),
+    subst (All (λ r. (r.object < t.next_id) × (r.stamp < t.next_stamp))) (sym same)
+        (All-weaker (λ (r : Row). (r.object < s.next_id) × (r.stamp < s.next_stamp)) (λ r. (r.object < t.next_id) × (r.stamp < t.next_stamp))
+        (λ r less. ((let first = less.0 in omega (arith, first, more)), (let second = less.1 in omega (arith, second, stamps)))) s.rows has.1),
     subst (AllPairs Less) (sym same) has.2,
-    subst (All (λ r. r.object < b.next_id → Contains b.rows r)) (sym same) has.3,
+    subst (All IsOld) (sym same) has.3,
   )
 
   parsed_names : (s : State K T F I) (ticket : ℕ) (outcome : Option (ParseOutcome F I)) → Keeps s → Keeps (parsed_state s ticket outcome)
   parsed_names s ticket None h = h
   parsed_names s ticket (Some EndsItself) h = h
-  parsed_names s ticket (Some (EndsMade face inner)) h = grown s (parsed_state s ticket (Some (EndsMade face inner))) refl (omega arith) h
+  parsed_names s ticket (Some (EndsMade face inner)) h = grown s (parsed_state s ticket (Some (EndsMade face inner))) refl (omega arith) refl h
   parsed_names s ticket (Some (EndsReparse text)) h = h
   parsed_names s ticket (Some (EndsRefused k)) h = h
 
@@ -68,18 +73,20 @@ module _ {K T F I : Type 0} (b : State K T F I) where
     settled_names : (s : State K T F I) → Keeps s → Keeps (settle g s)
     settled_names s h = (
       h.0,
-      All-filter (is_kept s) (λ r. r.object < s.next_id) s.rows h.1,
+      All-filter (is_kept s) (λ r. (r.object < s.next_id) × (r.stamp < s.next_stamp)) s.rows h.1,
       AllPairs-filter Less (is_kept s) s.rows h.2,
-      All-filter (is_kept s) (λ r. r.object < b.next_id → Contains b.rows r) s.rows h.3,
+      All-filter (is_kept s) IsOld s.rows h.3,
     )
 
     created_names : (s : State K T F I) (p : ℕ) (spot : Spot) (body : Body F I) (attrs value : ℕ) → Keeps s → Keeps (created g s p spot body attrs value)
-    created_names s p None body attrs value h = grown s (record s { next_id = s.next_id + 1; rows = s.rows ++ [] }) (append-nil s.rows) (omega arith) h
+    created_names s p None body attrs value h = grown s (created g s p None body attrs value) (append-nil s.rows) (omega arith) (omega arith) h
     created_names s p (Some at) body attrs value h = (
-      (let first = h.0 in omega (arith, first)),
-      All-push (λ r. r.object < s.next_id + 1) s.rows _ (All-weaker (λ (r : Row). r.object < s.next_id) (λ r. r.object < s.next_id + 1) (λ r less. omega (arith, less)) s.rows h.1) (omega arith),
-      pairs_push s.rows _ h.1 h.2,
-      All-push (λ r. r.object < b.next_id → Contains b.rows r) s.rows _ h.3 (λ less. let first = h.0 in absurd (omega (arith, first, less))),
+      ((let first = h.0.0 in omega (arith, first)), (let first = h.0.1 in omega (arith, first))),
+      All-push (λ r. (r.object < s.next_id + 1) × (r.stamp < s.next_stamp + 1)) s.rows _
+          (All-weaker (λ (r : Row). (r.object < s.next_id) × (r.stamp < s.next_stamp)) (λ r. (r.object < s.next_id + 1) × (r.stamp < s.next_stamp + 1))
+          (λ r less. ((let first = less.0 in omega (arith, first)), (let second = less.1 in omega (arith, second)))) s.rows h.1) (omega arith, omega arith),
+      pairs_push s.rows _ (All-weaker (λ (r : Row). (r.object < s.next_id) × (r.stamp < s.next_stamp)) (λ r. r.object < s.next_id) (λ r less. less.0) s.rows h.1) h.2,
+      All-push IsOld s.rows _ h.3 (inr h.0),
     )
 
     inherits_one_names : (s : State K T F I) (child : ℕ) (h : Held) → Keeps s → Keeps (inherits_one g s child h)
@@ -99,7 +106,7 @@ module _ {K T F I : Type 0} (b : State K T F I) where
 
     came_names : (s t : State K T F I) → Keeps s → Came g s t → Keeps t
     came_names s t has came =
-        came_leads g s Keeps has (λ body. grown s (dropped g s body) refl (omega arith) has)
+        came_leads g s Keeps has (λ body. grown s (dropped g s body) refl (omega arith) refl has)
         (λ p value o asked reason e. settled_names (with_handle (with_open g s o reason) p value o asked.inherit) has)
         (λ p spot body attrs value lawful. settled_names (created g s p spot body attrs value) (created_names s p spot body attrs value has))
         (λ x. settled_names (closed_handle g s x) has)
@@ -107,7 +114,7 @@ module _ {K T F I : Type 0} (b : State K T F I) where
         (λ p m. settled_names (with_map s p m) has)
         (λ p inherit. settled_names (begun g s p inherit) (inherits_names (with_child s p) s.next_process (inherited_from s p inherit) has))
         (λ p. settled_names (ended g s p) (closed_in_turn_names s (handles_in s p) has))
-        (λ p attrs wanted o rest n. settled_names (with_pending s p attrs wanted o rest n) (grown s (with_pending s p attrs wanted o rest n) refl (omega arith) has)) t came
+        (λ p attrs wanted o rest n. settled_names (with_pending s p attrs wanted o rest n) (grown s (with_pending s p attrs wanted o rest n) refl (omega arith) refl has)) t came
 
     step_names : (s t : State K T F I) (event : Event K) (answer : Answer) → Keeps s → Step g s event answer t → Keeps t
     step_names s t (Start p command) answer has h = came_names s t has (started p command answer h)
@@ -131,17 +138,18 @@ module _ {K T F I : Type 0} (b : State K T F I) where
 
 -- a state whose names are in order keeps its own
 own_names : {K T F I : Type 0} (b s : State K T F I) → Keeps b s → Keeps s s
-own_names b s has = ((omega arith), has.1, has.2, All-weaker (Contains s.rows) (λ r. r.object < s.next_id → Contains s.rows r) (λ r among less. among) s.rows (All-contains_itself s.rows))
+own_names b s has = ((omega arith, omega arith), has.1, has.2, All-weaker (Contains s.rows) (IsOld s) (λ r among. inl among) s.rows (All-contains_itself s.rows))
 
 opening_names : (K T F I : Type 0) (first : T) → Keeps (opening {K = K} {T = T} {F = F} {I = I} first) (opening first)
-opening_names K T F I first =
-    ((omega arith), below, rising, All-weaker (Contains o.rows) (λ r. r.object < o.next_id → Contains o.rows r) (λ r among less. among) o.rows (All-contains_itself o.rows))
+opening_names K T F I first = ((omega arith, omega arith), below, rising, All-weaker (Contains o.rows) (IsOld o) (λ r among. inl among) o.rows (All-contains_itself o.rows))
   where
     o : State K T F I
     o = opening first
 
-    below : All (λ (r : Row). r.object < o.next_id) o.rows
-    below = All-from_recursion (λ (r : Row). r.object < o.next_id) o.rows (omega arith, (omega arith, (omega arith, (omega arith, (omega arith, tt)))))
+    below : All (λ (r : Row). (r.object < o.next_id) × (r.stamp < o.next_stamp)) o.rows
+    below =
+        All-from_recursion (λ (r : Row). (r.object < o.next_id) × (r.stamp < o.next_stamp)) o.rows
+        ((omega arith, omega arith), ((omega arith, omega arith), ((omega arith, omega arith), ((omega arith, omega arith), ((omega arith, omega arith), tt)))))
 
     rising : AllPairs Less o.rows
     rising = pairs_climb (λ (r : Row). r.object) o.rows (omega arith, (omega arith, (omega arith, (omega arith, tt))))

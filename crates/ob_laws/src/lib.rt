@@ -50,9 +50,8 @@ pub fn scan_law<K, T, F, I>()
     ensures { ScansAreWhole K T F I }
 {}
 
-/// In each run names come with new objects alone, and a name that goes never comes again: each state has, of the objects
-/// that were made before an earlier state, no names but those that the earlier one had, and its names rise by the ids
-/// of their objects.
+/// In each run names come with new objects alone, and a name that goes never comes again: each name of a state is one of
+/// an earlier state, or its object and its stamp were drawn since. The names of a state rise by the ids of their objects.
 ///
 /// Source: Windows Internals, Object Manager (object names, object retention).
 pub fn names_only_go<K, T, F, I>()

@@ -1,4 +1,4 @@
--- Changes: which words of a script the reply to a request changes.
+-- Changes: which variables of a script the reply to a request changes.
 --
 -- Source: this profile.
 use Rattle.std.specs.Prelude.{ℕ, List}

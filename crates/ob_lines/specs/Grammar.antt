@@ -115,11 +115,11 @@ abbrev pub IsVerbAndOperands : List ℕ → Request (List ℕ) → Type 0
 IsVerbAndOperands bytes request =
     (operands : List ℕ) × (bytes ≡ verb_text (verb_of request) ++ codes " " ++ operands) × IsOperands operands request
 
--- what a process asks for, after its process word and a space: `exit` alone, or a verb and its operands
+-- a request, after the process variable and a space: `exit` alone, or a verb and its operands
 abbrev pub IsRequest : List ℕ → Request (List ℕ) → Type 0
 IsRequest bytes request = ((bytes ≡ codes "exit") × (request ≡ ExitProcess)) ⊎ IsVerbAndOperands bytes request
 
--- what a process asks of its opens that wait, after its process word and a space: `begin WANT NAME FLAGS =V`,
+-- a line on a pending open, after the process variable and a space: `begin WANT NAME FLAGS =V`,
 -- `end V` or `drop V`
 abbrev pub IsPending : List ℕ → PendingForm (List ℕ) → Type 0
 IsPending bytes (Begin want name attrs word) =
@@ -169,7 +169,7 @@ HasTexts (SetDeviceMap handle) = Unit {0}
 HasTexts (NewProcess inherit child) = Unit {0}
 HasTexts ExitProcess = Unit {0}
 
--- the text of what is asked of an open that waits, where it has one, is a text
+-- the text of a line on a pending open, where it has one, is a text
 abbrev pub PendingHasTexts : PendingForm (List ℕ) → Type 0
 PendingHasTexts (Begin want name attrs word) = IsText (text_of name)
 PendingHasTexts (End word) = Unit {0}
@@ -182,7 +182,7 @@ FormHasTexts Stat = Unit {0}
 FormHasTexts (Asks process request) = HasTexts request
 FormHasTexts (Waits process pending) = PendingHasTexts pending
 
--- a request, what is asked of the opens that wait, and a form, whose slices of bytes are seen as the lists that they
+-- a request, a line on a pending open, and a form, whose slices of bytes are seen as the lists that they
 -- hold
 abbrev pub request_seen : Request (Bor (List ℕ)) → Request (List ℕ)
 request_seen (CreateDirectory place attrs word) = CreateDirectory (place_seen place) attrs word.now

@@ -1,4 +1,4 @@
-//! The words that the reply to a request changes.
+//! The variables that the reply to a request changes.
 
 ghost use Rattle.std.specs.Prelude.{◌≡◌};
 ghost use Rattle.ob_lines.specs.Grammar.{request_seen};
@@ -6,43 +6,43 @@ ghost use Rattle.ob_lines.specs.Changes.{change_of, change_seen};
 
 use crate::request::Request;
 
-/// Which words of a script the reply to a request changes. `T` is how bytes are held: as slices of the
+/// Which variables of a script the reply to a request changes. `T` is how bytes are held: as slices of the
 /// line, or, in contracts, as lists.
 #[derive(Clone, Copy, PartialEq, Eq, Debug)]
 pub enum Change<T> {
     /// None: of a query, of an object that is made temporary or permanent, and of a device map that is set.
     Nothing,
-    /// `=V` of a create or an open: this handle word of the process that asks is set to the handle that
+    /// `=V` of a create or an open: this handle variable of the requesting process is set to the handle that
     /// was given, or to 0 where none was given.
     Sets(T),
-    /// `Q .. =V` of a `dup`: a handle word of the process that this process word names, which may be the
-    /// one that asks, is set to the handle that was given, or to 0 where none was given.
+    /// `Q .. =V` of a `dup`: a handle variable of the process that this process variable names, which may be the
+    /// requesting one, is set to the handle that was given, or to 0 where none was given.
     SetsFor {
-        /// The process word.
+        /// The process variable.
         process: T,
-        /// The handle word.
+        /// The handle variable.
         word: T,
     },
-    /// `H` of a `close`: this handle word of the process that asks is set to 0 where the reply is SUCCESS,
+    /// `H` of a `close`: this handle variable of the requesting process is set to 0 where the reply is SUCCESS,
     /// whatever was added to its value.
     GivesUp(T),
-    /// `H` of a `list`: the context that is kept for this handle word of the process that asks is the one
-    /// that was given, where one was, whatever was added to the word's value.
+    /// `H` of a `list`: the context that is kept for this handle variable of the requesting process is the one
+    /// that was given, where one was, whatever was added to the variable's value.
     TurnsPage(T),
-    /// `exit`: all handle words of the process that asks are set to 0 where the reply is SUCCESS.
+    /// `exit`: all handle variables of the requesting process are set to 0 where the reply is SUCCESS.
     GivesAllUp,
-    /// `=Q` of a `new`: this process word is set to the child, or to 0 where none was made. Where one was,
-    /// its handle words are set too: to what it inherited of its parent's, where it does, and else to 0.
+    /// `=Q` of a `new`: this process variable is set to the child, or to 0 where none was made. Where one was,
+    /// its handle variables are set too: to what it inherited of its parent's, where it does, and else to 0.
     SetsProcess {
-        /// The process word.
+        /// The process variable.
         process: T,
         /// Whether the child inherits.
         inherit: bool,
     },
 }
 
-/// The words that the reply to a request changes. A `dup` with inheritance and one without change the
-/// same. Takes no memory. Source: this profile.
+/// The variables that the reply to a request changes. A `dup` with inheritance and one without change the
+/// same. Source: this profile.
 pub fn change_of<'a>(request: &Request<&'a [u8]>) -> Change<&'a [u8]>
     ensures { change_seen result ≡ change_of (request_seen request.now) }
 {

@@ -18,25 +18,25 @@ pub const LONGEST_LINE: usize = 262_144;
 pub enum Form<T> {
     /// An empty line or a comment.
     Nothing,
-    /// `stat`: the counts are told.
+    /// `stat`: the counts are printed.
     Stat,
-    /// `P REQUEST`: a process asks for something.
+    /// `P REQUEST`: a request of a process.
     Asks {
-        /// The process word.
+        /// The process variable.
         process: T,
-        /// What is asked for.
+        /// The request.
         request: Request<T>,
     },
-    /// `P begin ..`, `P end V` or `P drop V`: a process asks something of the opens that wait for a parse.
+    /// `P begin ..`, `P end V` or `P drop V`: a line on a pending open of a process.
     Waits {
-        /// The process word.
+        /// The process variable.
         process: T,
-        /// What is asked.
+        /// What the line does with the pending open.
         pending: PendingForm<T>,
     },
 }
 
-/// Whether a line without its LF does nothing: it is empty or a comment, and has at most 262,144 bytes. Takes no memory.
+/// Whether a line without its LF does nothing: it is empty or a comment, and has at most 262,144 bytes.
 /// Source: this profile.
 pub fn is_idle(line: &[u8]) -> bool
     ensures { IsTrue result ↔ IsLine line.now Form.Nothing }
@@ -45,7 +45,7 @@ pub fn is_idle(line: &[u8]) -> bool
 }
 
 /// The form of a line without its LF: none where it is no line of a script, as one of more than
-/// 262,144 bytes. Takes no memory. Source: this profile.
+/// 262,144 bytes. Source: this profile.
 pub fn form_of(line: &[u8]) -> Option<Form<&[u8]>>
     ensures found { IfSome result (λ form. IsLine line.now (form_seen form)) }
     ensures none { IfNone result ((form : Form (List ℕ)) → ¬ IsLine line.now form) }
@@ -62,7 +62,7 @@ pub fn form_of(line: &[u8]) -> Option<Form<&[u8]>>
     asking_of(line)
 }
 
-// The form of a line that asks for something, or something of the opens that wait.
+// The form of a line of a process: a request, or a line on a pending open.
 fn asking_of(line: &[u8]) -> Option<Form<&[u8]>>
     requires { length line.now ≤ 262144 }
     ensures found { IfSome result (λ form. IsLine line.now (form_seen form)) }

@@ -1,8 +1,8 @@
-//! Lines of a script: what a line is, its form and its words, and the parser.
+//! Lines of a script: what a line is, its form and its variables, and the parser.
 //!
 //! A script is bytes, which LF cuts into lines. Each line has at most one form, which the parser finds
-//! where there is one; a form names its words and texts as slices of the line. The parts of which a line
-//! is made stand in `ob_parts`. Nothing here knows what the words stand for, and no namespace is needed.
+//! where there is one; a form names its variables and texts as slices of the line. The parts of which a line
+//! is made are in `ob_parts`. Nothing here knows what the variables hold, and no namespace is needed.
 //! docs/script.md has the language.
 #![tactic(auto)]
 

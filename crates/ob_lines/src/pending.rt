@@ -1,4 +1,4 @@
-//! What a process asks of the opens that wait for a parse.
+//! What a line does with a pending open.
 
 ghost use Rattle.std.specs.Prelude.{◌≡◌, ◌≤◌, ℕ, List, length, IfSome, IfNone};
 ghost use Rattle.ob_lines.specs.declared.pending.PendingForm.{PendingForm};
@@ -6,7 +6,7 @@ ghost use Rattle.ob_lines.specs.Grammar.{IsPending, pending_seen};
 
 use ob_parts::{KindForm, NameForm, behind, is_word, want_name_flags_and_word};
 
-/// What a process asks of the opens that wait for a parse. `T` is how bytes are held: as slices of the
+/// What a line does with a pending open. `T` is how bytes are held: as slices of the
 /// line, or, in contracts, as lists. (this profile)
 #[derive(Clone, Copy, PartialEq, Eq, Debug)]
 pub enum PendingForm<T> {
@@ -18,22 +18,22 @@ pub enum PendingForm<T> {
         name: NameForm<T>,
         /// The attribute flags, as raw bits.
         attrs: u32,
-        /// The handle word under which the open waits, and which its end sets.
+        /// The handle variable under which the open is pending, and which its end sets.
         word: T,
     },
-    /// `end V`: the parse of the open that waits under a handle word is run and brought.
+    /// `end V`: the parse of the pending open under a handle variable is run, and the open resumed.
     End {
-        /// The handle word.
+        /// The handle variable.
         word: T,
     },
-    /// `drop V`: the open that waits under a handle word is given up, and its parse not run.
+    /// `drop V`: the pending open under a handle variable is abandoned, and its parse not run.
     Drop {
-        /// The handle word.
+        /// The handle variable.
         word: T,
     },
 }
 
-// What is asked of the opens that wait, after the process word and a space.
+// What a line does with a pending open, after the process variable and a space.
 pub fn pending_of(bytes: &[u8]) -> Option<PendingForm<&[u8]>>
     requires { length bytes.now ≤ 262144 }
     ensures found { IfSome result (λ pending. IsPending bytes.now (pending_seen pending)) }

@@ -1,4 +1,4 @@
-//! What a process asks for in a line.
+//! A request: what a process does in a line.
 
 ghost use Rattle.std.specs.Prelude.{◌≡◌, ◌≤◌, ℕ, Bool, List, Option, length, IfSome, IfNone};
 ghost use Rattle.ob_parts.specs.declared.handle.HandleForm.{HandleForm};
@@ -18,52 +18,52 @@ use ob_parts::{
     word_set,
 };
 
-/// What a process asks for in a line. `T` is how bytes are held: as slices of the line, or, in
+/// A request: what a process does in a line. `T` is how bytes are held: as slices of the line, or, in
 /// contracts, as lists.
 #[derive(Clone, Copy, PartialEq, Eq, Debug)]
 pub enum Request<T> {
     /// `dir PLACE FLAGS =V`: a new directory.
     CreateDirectory {
-        /// Where the directory is to stand.
+        /// The directory's place.
         place: PlaceForm<T>,
         /// The attribute flags, as raw bits.
         attrs: u32,
-        /// The handle word that is set.
+        /// The handle variable that is set.
         word: T,
     },
     /// `shadow H PLACE FLAGS =V`: a new directory with a shadow.
     CreateShadowed {
         /// The handle of the shadow.
         shadow: HandleForm<T>,
-        /// Where the directory is to stand.
+        /// The directory's place.
         place: PlaceForm<T>,
         /// The attribute flags, as raw bits.
         attrs: u32,
-        /// The handle word that is set.
+        /// The handle variable that is set.
         word: T,
     },
     /// `link PLACE FLAGS TEXT =V`: a new symbolic link.
     CreateLink {
-        /// Where the link is to stand.
+        /// The link's place.
         place: PlaceForm<T>,
         /// The attribute flags, as raw bits.
         attrs: u32,
         /// The text that spells the link's target.
         target: T,
-        /// The handle word that is set.
+        /// The handle variable that is set.
         word: T,
     },
     /// `make KIND PLACE FLAGS TEXT =V`: a new object.
     CreateObject {
         /// The kind of the object.
         kind: KindForm,
-        /// Where the object is to stand.
+        /// The object's place.
         place: PlaceForm<T>,
         /// The attribute flags, as raw bits.
         attrs: u32,
         /// The text that spells the object's arguments.
         args: T,
-        /// The handle word that is set.
+        /// The handle variable that is set.
         word: T,
     },
     /// `opendir NAME FLAGS =V`: a handle to a directory.
@@ -72,7 +72,7 @@ pub enum Request<T> {
         name: NameForm<T>,
         /// The attribute flags, as raw bits.
         attrs: u32,
-        /// The handle word that is set.
+        /// The handle variable that is set.
         word: T,
     },
     /// `openlink NAME FLAGS =V`: a handle to a symbolic link, which isn't followed.
@@ -81,7 +81,7 @@ pub enum Request<T> {
         name: NameForm<T>,
         /// The attribute flags, as raw bits.
         attrs: u32,
-        /// The handle word that is set.
+        /// The handle variable that is set.
         word: T,
     },
     /// `open WANT NAME FLAGS =V`: a handle to an object.
@@ -92,7 +92,7 @@ pub enum Request<T> {
         name: NameForm<T>,
         /// The attribute flags, as raw bits.
         attrs: u32,
-        /// The handle word that is set.
+        /// The handle variable that is set.
         word: T,
     },
     /// `close H`: a handle is closed.
@@ -122,13 +122,13 @@ pub enum Request<T> {
     /// `dup H Q plain =V` or `dup H Q inherit =V`: a handle of another process, or of the same, to the
     /// object of a handle.
     Duplicate {
-        /// The handle of the process that asks.
+        /// The handle of the requesting process.
         handle: HandleForm<T>,
-        /// The process word of the process that gets the new handle.
+        /// The process variable of the process that gets the new handle.
         to: T,
         /// Whether the new handle can be inherited.
         inherit: bool,
-        /// The handle word that is set, which is one of the process `to`.
+        /// The handle variable that is set, which is one of the process `to`.
         word: T,
     },
     /// `temp H`: the object of a handle is made temporary.
@@ -146,18 +146,18 @@ pub enum Request<T> {
         /// The handle.
         handle: HandleForm<T>,
     },
-    /// `new plain =Q` or `new inherit =Q`: a new process, a child of the one that asks.
+    /// `new plain =Q` or `new inherit =Q`: a new process, a child of the requesting one.
     NewProcess {
         /// Whether the child inherits the handles that can be inherited.
         inherit: bool,
-        /// The process word that is set.
+        /// The process variable that is set.
         child: T,
     },
-    /// `exit`: the process that asks ends.
+    /// `exit`: the requesting process ends.
     ExitProcess,
 }
 
-// What is asked for, after the process word and a space.
+// The request, after the process variable and a space.
 pub fn request_of(bytes: &[u8]) -> Option<Request<&[u8]>>
     requires { length bytes.now ≤ 262144 }
     ensures found { IfSome result (λ request. IsRequest bytes.now (request_seen request)) }
@@ -169,7 +169,7 @@ pub fn request_of(bytes: &[u8]) -> Option<Request<&[u8]>>
     verb_and_operands_of(bytes)
 }
 
-// What is asked for by a verb, a space and its operands.
+// The request of a verb, a space and its operands.
 fn verb_and_operands_of(bytes: &[u8]) -> Option<Request<&[u8]>>
     requires { length bytes.now ≤ 262144 }
     ensures found { IfSome result (λ request. IsVerbAndOperands bytes.now (request_seen request)) }
@@ -181,7 +181,7 @@ fn verb_and_operands_of(bytes: &[u8]) -> Option<Request<&[u8]>>
     operands_of(verb, operands)
 }
 
-// What is asked for by a verb with these operands.
+// The request of a verb with these operands.
 fn operands_of(verb: Verb, operands: &[u8]) -> Option<Request<&[u8]>>
     requires { length operands.now ≤ 262144 }
     ensures verb { IfSome result (λ request. verb_of (request_seen request) ≡ verb) }

@@ -1,10 +1,10 @@
-//! The words that say what a process asks for.
+//! Verbs: the words that name requests.
 
 ghost use Rattle.std.specs.Prelude.{◌≡◌, ◌≢◌, IfSome, IfNone};
 ghost use Rattle.ob_lines.specs.declared.verb.Verb.{Verb};
 ghost use Rattle.ob_lines.specs.Grammar.{verb_text};
 
-// What a process asks for.
+// A verb, which names a request.
 #[derive(Clone, Copy)]
 pub enum Verb {
     // `dir`: a new directory.
@@ -39,7 +39,7 @@ pub enum Verb {
     Map,
     // `new`: a new process.
     New,
-    // `exit`: the process that asks ends. It has no operands.
+    // `exit`: the requesting process ends. It has no operands.
     Exit,
 }
 

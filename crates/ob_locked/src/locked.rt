@@ -126,6 +126,20 @@ impl<T: TypeSet, H: HandleTable, L: Ledger> Locked<T, H, L> {
         &self.core
     }
 
+    /// Lists from now on the names that are removed, as [`Core::list_removed`] does: no step, and no entry. (this profile)
+    pub fn list_removed(&mut self)
+        ensures { self.new ≡ self.old }
+    {
+        self.core.list_removed();
+    }
+
+    /// Clears the list of removed names, as [`Core::clear_removed`] does. Takes no memory. (this profile)
+    pub fn clear_removed(&mut self)
+        ensures { self.new ≡ self.old }
+    {
+        self.core.clear_removed();
+    }
+
     /// The namespace, and the segments of its journal: the sealed ones, and the open one. (this profile)
     pub fn into_parts(self) -> (Core<T, H>, Vec<Arc<Segment<T::Kind>>>, Segment<T::Kind>)
         ensures core { result.0 ≡ self.state }

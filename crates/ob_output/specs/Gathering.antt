@@ -1,4 +1,4 @@
--- How the shell writes its output: what a writer and a block hold. Source: this profile.
+-- How output is written: what a writer and a block hold. Source: this profile.
 use Rattle.std.specs.Prelude.{◌≡◌, ℕ, List, ◌++◌, Option}
 use Rattle.std.specs.Io.KnownBytes.{Appends}
 

@@ -1,6 +1,6 @@
 //! What a namespace counts.
 
-/// What a namespace counts, as `stat` tells it. (this profile)
+/// What a namespace counts, as `stat` prints it. (this profile)
 #[derive(Clone, Copy, PartialEq, Eq, Debug)]
 pub struct Totals {
     /// The objects that there are.
@@ -9,8 +9,8 @@ pub struct Totals {
     pub handles: usize,
     /// The opens that the set of types accepted since the start.
     pub opens: u64,
-    /// The closes that the set of types was told since the start.
+    /// The closes that the set of types was called for since the start.
     pub closes: u64,
-    /// The deletes that the set of types was told since the start.
+    /// The deletes that the set of types was called for since the start.
     pub deletes: u64,
 }

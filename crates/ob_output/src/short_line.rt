@@ -1,4 +1,4 @@
-//! A line of the output that stands in the value itself, where there is no block.
+//! A line of the output that is in the value itself, where there is no block.
 
 ghost use Rattle.std.specs.Prelude.{◌≡◌, ◌+◌, ◌≤◌, [], ◌++◌, length};
 ghost use Rattle.arrayvec.specs.ArrayVec.{array_vec_len};
@@ -10,7 +10,7 @@ use itoa::Buffer;
 // Room for a number of at most 20 digits, a text of at most 22 bytes, and three bytes more.
 const ROOM: usize = 45;
 
-/// A line of a number and a short text: at most 45 bytes, which stand in the value itself.
+/// A line of a number and a short text: at most 45 bytes, which are in the value itself.
 pub type Line = ArrayVec<u8, ROOM>;
 
 /// The line of a number and a text of at most 22 bytes: the number, a colon, a space, the text and LF.

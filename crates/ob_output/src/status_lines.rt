@@ -1,4 +1,4 @@
-//! Lines that tell a status, and their fronts, added to a block that has room for them.
+//! Lines that say a status, and their beginnings, added to a block that has room for them.
 
 ghost use Rattle.std.specs.Prelude.{◌≡◌, ◌+◌, ◌≤◌, ◌++◌, codes, vec_len, vec_capacity};
 ghost use Rattle.std.specs.Fmt.{decimal};
@@ -19,7 +19,7 @@ pub fn push_status_line(block: &mut Vec<u8>, number: u64, status: Status)
     push_text(block, b"\n");
 }
 
-/// Adds the same line as far as the quote in front of a text that is given. After it stand the text, as
+/// Adds the same line as far as the quote in front of a text that is given. After it come the text, as
 /// [`push_printed`](crate::push_printed) adds it, a quote and LF. (this profile)
 pub fn push_text_front(block: &mut Vec<u8>, number: u64, status: Status)
     requires { vec_len block.old + LINE_ROOM ≤ vec_capacity block.old }
@@ -31,7 +31,7 @@ pub fn push_text_front(block: &mut Vec<u8>, number: u64, status: Status)
     push_text(block, b" \"");
 }
 
-/// Adds the same line as far as the status, at most 62 bytes. After it stand the entries of a page that is
+/// Adds the same line as far as the status, at most 62 bytes. After it come the entries of a page that is
 /// given, and LF. (this profile)
 pub fn push_status_front(block: &mut Vec<u8>, number: u64, status: Status)
     requires { vec_len block.old + LINE_ROOM ≤ vec_capacity block.old }

@@ -36,7 +36,7 @@ IsRawBits flags bits =
     (digits : List ℕ) × (flags ≡ codes "x" ++ digits) × AllDigits 16 digits × (1 ≤ length digits) × (length digits ≤ 8)
     × (bits ≡ digits_value 16 digits)
 
--- what stands for flags, and their bits: `-` for none, one or more letters, or raw bits
+-- what spells flags, and their bits: `-` for none, one or more letters, or raw bits
 abbrev pub IsFlags : List ℕ → ℕ → Type 0
 IsFlags flags bits =
     ((flags ≡ codes "-") × (bits ≡ 0)) ⊎ ((1 ≤ length flags) × IsLetters flags bits) ⊎ IsRawBits flags bits

@@ -1,6 +1,6 @@
--- The parts of a line: texts, handles, names, places, kinds, flags, rooms, process words, inheritance and the word
--- that is set. Handles stand alone, or with all others but the last at the front of bytes that continue after them and
--- a space. Several parts after one another stand alone.
+-- The parts of a line: texts, handles, names, places, kinds, flags, rooms, process variables, inheritance and the word
+-- that is set. Handles are alone, or, as all others but the last, at the beginning of bytes that continue after them and
+-- a space. Several parts after one another are alone.
 --
 -- Handles, names and places are generic in how they hold bytes: in the code as slices of the line, here as lists.
 -- Source: this profile.
@@ -23,7 +23,7 @@ use Rattle.ob_parts.specs.Pages.{IsRoom}
 abbrev pub BeginsWithText : List ℕ → List ℕ → List ℕ → Type 0
 BeginsWithText bytes text rest = IsText text × (bytes ≡ codes "\"" ++ text ++ codes "\" " ++ rest)
 
--- what follows a handle word for what is added to its value
+-- what follows a handle variable for what is added to its value
 abbrev pub offset_text : Offset → List ℕ
 offset_text Zero = []
 offset_text One = codes "+1"
@@ -37,7 +37,7 @@ offset_value One = 1
 offset_value Two = 2
 offset_value Three = 3
 
--- a handle: a handle word, or one with `+1`, `+2` or `+3` directly after it
+-- a handle: a handle variable, or one with `+1`, `+2` or `+3` directly after it
 abbrev pub IsHandle : List ℕ → HandleForm (List ℕ) → Type 0
 IsHandle bytes handle = IsWord handle.word × (bytes ≡ handle.word ++ offset_text handle.offset)
 
@@ -77,7 +77,7 @@ BeginsWithFlags bytes attrs rest = (flags : List ℕ) × IsFlags flags attrs × 
 abbrev pub BeginsWithRoom : List ℕ → ℕ → List ℕ → Type 0
 BeginsWithRoom bytes room rest = (spelled : List ℕ) × IsRoom spelled room × (bytes ≡ spelled ++ codes " " ++ rest)
 
--- a process word
+-- a process variable
 abbrev pub BeginsWithProcess : List ℕ → List ℕ → List ℕ → Type 0
 BeginsWithProcess bytes process rest = IsProcessWord process × (bytes ≡ process ++ codes " " ++ rest)
 

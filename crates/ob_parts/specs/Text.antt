@@ -14,7 +14,7 @@ abbrev pub IsWord : List ℕ → Type 0
 IsWord [] = ⊥
 IsWord (c ∷ cs) = IsAsciiAlphabetic c × AllByRecursion IsAsciiAlphanumeric cs × (length cs ≤ 31)
 
--- a process word: a word that is none of the language's own
+-- a process variable: a word that is none of the language's own
 abbrev pub IsProcessWord : List ℕ → Type 0
 IsProcessWord word = IsWord word × (word ≢ codes "stat") × (word ≢ codes "thread") × (word ≢ codes "join")
 

@@ -21,7 +21,7 @@ pub fn flags_of(flags: &[u8]) -> Option<u32>
     }
 }
 
-// The bits of distinct letters. A letter stands at most once, so the depth is 7 at most.
+// The bits of distinct letters. A letter is there at most once, so the depth is 7 at most.
 fn letters_of(letters: &[u8]) -> Option<u32>
     requires { length letters.now ≤ 262144 }
     ensures found { IfSome result (λ bits. IsLetters letters.now bits) }

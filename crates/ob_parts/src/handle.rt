@@ -1,4 +1,4 @@
-//! Handles in a line: a handle word, or one with a number that is added to its value.
+//! Handles in a line: a handle variable, or one with a number that is added to its value.
 
 ghost use Rattle.std.specs.Prelude.{◌≡◌, ◌≢◌, ◌++◌, ℕ, List, codes, IfSome, IfNone};
 ghost use Rattle.ob_parts.specs.declared.handle.HandleForm.{HandleForm};
@@ -8,7 +8,7 @@ ghost use Rattle.ob_parts.specs.Parts.{IsHandle, handle_seen, offset_text, offse
 use crate::split::split_at;
 use crate::text::is_word;
 
-/// A number that is added to the value of a handle word. (this profile)
+/// A number that is added to the value of a handle variable. (this profile)
 #[derive(Clone, Copy, PartialEq, Eq, Debug)]
 pub enum Offset {
     /// Nothing after the word: 0.
@@ -25,14 +25,14 @@ pub enum Offset {
 /// or, in contracts, as lists.
 #[derive(Clone, Copy, PartialEq, Eq, Debug)]
 pub struct HandleForm<T> {
-    /// The handle word.
+    /// The handle variable.
     pub word: T,
     /// What is added to its value.
     pub offset: Offset,
 }
 
-/// The handle that the bytes are, `H`: none where they are no handle word, and none with `+1`, `+2` or `+3` after
-/// it. Takes no memory. Source: this profile.
+/// The handle that the bytes are, `H`: none where they are no handle variable, and none with `+1`, `+2` or `+3` after
+/// it. Source: this profile.
 pub fn handle_of(bytes: &[u8]) -> Option<HandleForm<&[u8]>>
     ensures found { IfSome result (λ handle. IsHandle bytes.now (handle_seen handle)) }
     ensures none { IfNone result ((handle : HandleForm (List ℕ)) → ¬ IsHandle bytes.now handle) }
@@ -65,7 +65,7 @@ fn offset_of(number: &[u8]) -> Option<Offset>
     }
 }
 
-/// What is added to the value of a handle word: 0 to 3. Source: this profile.
+/// What is added to the value of a handle variable: 0 to 3. Source: this profile.
 pub fn offset_value(offset: Offset) -> u32
     ensures { result ≡ offset_value offset }
 {

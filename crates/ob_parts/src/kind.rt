@@ -25,7 +25,7 @@ pub enum KindForm {
 }
 
 /// The kind with which the bytes begin, `KIND`, and what follows it and a space: none where they begin with no
-/// kind. Takes no memory. Source: this profile.
+/// kind. Source: this profile.
 pub fn take_kind(bytes: &[u8]) -> Option<(KindForm, &[u8])>
     ensures found { IfSome result (λ found. BeginsWithKind bytes.now found.0 found.1.now) }
     ensures shorter { IfSome result (λ found. length found.1.now ≤ length bytes.now) }

@@ -1,8 +1,8 @@
 //! Parts of a script's lines: what spells each, and a parser that finds exactly that.
 //!
 //! A part is a word, a text, a handle, a name, a place, a kind, flags, a room, a mode, an inheritance, or the
-//! word that is set. A parser finds a part at the front of bytes, where there is one, and gives what stands
-//! after it and a space; or it finds several parts after one another, up to the end. What is found names its
+//! word that is set. A parser finds a part at the front of bytes, where there is one, and gives what follows
+//! it and a space; or it finds several parts after one another, up to the end. What is found names its
 //! words and texts as slices of the line. Nothing here knows which lines there are. docs/script.md has the
 //! language.
 #![tactic(auto)]

@@ -61,7 +61,7 @@ pub fn mode_of(word: &[u8]) -> Option<PageMode>
 }
 
 /// The room with which the bytes begin, `ROOM`, and what follows it and a space: none where they begin with no
-/// decimal number below 2^32, or with one that has needless zeros. Takes no memory. Source: this profile.
+/// decimal number below 2^32, or with one that has needless zeros. Source: this profile.
 pub fn take_room(bytes: &[u8]) -> Option<(u32, &[u8])>
     ensures found { IfSome result (λ found. BeginsWithRoom bytes.now found.0 found.1.now) }
     ensures shorter { IfSome result (λ found. length found.1.now ≤ length bytes.now) }

@@ -1,4 +1,4 @@
-//! Texts, names, places, flags and the word that is set, and parts after one another that several lines have.
+//! Texts, names, places, flags and the variable that is set, and parts after one another that several lines have.
 
 ghost use Rattle.std.specs.Prelude.{◌≡◌, ◌≤◌, ℕ, List, Option, length, IfSome, IfNone};
 ghost use Rattle.ob_parts.specs.declared.kind.KindForm.{KindForm};
@@ -46,7 +46,7 @@ pub(crate) fn take_name(bytes: &[u8]) -> Option<(NameForm<&[u8]>, &[u8])>
 }
 
 /// The place with which the bytes begin, `PLACE`, and what follows it and a space: none where they begin with
-/// no place. Takes no memory. Source: this profile.
+/// no place. Source: this profile.
 pub fn take_place(bytes: &[u8]) -> Option<(PlaceForm<&[u8]>, &[u8])>
     ensures found { IfSome result (λ found.
         BeginsWithPlace bytes.now (place_seen found.0) found.1.now) }
@@ -74,7 +74,7 @@ pub(crate) fn take_flags(bytes: &[u8]) -> Option<(u32, &[u8])>
     Some((attrs, rest))
 }
 
-/// The handle word that is set, where the bytes are `=V`: none where they aren't. Takes no memory. Source: this
+/// The handle variable that is set, where the bytes are `=V`: none where they aren't. Source: this
 /// profile.
 pub fn word_set(bytes: &[u8]) -> Option<&[u8]>
     ensures found { IfSome result (λ word. SetsWord bytes.now word.now) }
@@ -86,8 +86,8 @@ pub fn word_set(bytes: &[u8]) -> Option<&[u8]>
     }
 }
 
-/// The parts of `FLAGS =V`: the bits of the flags, and the word that is set. None where the bytes aren't that.
-/// Takes no memory. Source: this profile.
+/// The parts of `FLAGS =V`: the bits of the flags, and the variable that is set. None where the bytes aren't that.
+/// Source: this profile.
 pub fn flags_and_word(bytes: &[u8]) -> Option<(u32, &[u8])>
     requires { length bytes.now ≤ 262144 }
     ensures found { IfSome result (λ parts. IsFlagsAndWord bytes.now parts.0 parts.1.now) }
@@ -113,8 +113,8 @@ fn flags_text_and_word(bytes: &[u8]) -> Option<(u32, &[u8], &[u8])>
     Some((attrs, text, word))
 }
 
-/// The parts of `NAME FLAGS =V`: the name, the bits of the flags, and the word that is set. None where the bytes
-/// aren't that. Takes no memory. Source: this profile.
+/// The parts of `NAME FLAGS =V`: the name, the bits of the flags, and the variable that is set. None where the bytes
+/// aren't that. Source: this profile.
 pub fn name_flags_and_word(bytes: &[u8]) -> Option<(NameForm<&[u8]>, u32, &[u8])>
     requires { length bytes.now ≤ 262144 }
     ensures found { IfSome result (λ parts.
@@ -128,7 +128,7 @@ pub fn name_flags_and_word(bytes: &[u8]) -> Option<(NameForm<&[u8]>, u32, &[u8])
 }
 
 /// The parts of `WANT NAME FLAGS =V`: the kind that is wanted, which is none for `any`, the name, the bits of the
-/// flags, and the word that is set. None where the bytes aren't that. Takes no memory. Source: this profile.
+/// flags, and the variable that is set. None where the bytes aren't that. Source: this profile.
 pub fn want_name_flags_and_word(
     bytes: &[u8],
 ) -> Option<(Option<KindForm>, NameForm<&[u8]>, u32, &[u8])>
@@ -144,8 +144,8 @@ pub fn want_name_flags_and_word(
     Some((want, name, attrs, word))
 }
 
-/// The parts of `PLACE FLAGS TEXT =V`: the place, the bits of the flags, the text, and the word that is set. None
-/// where the bytes aren't that. Takes no memory. Source: this profile.
+/// The parts of `PLACE FLAGS TEXT =V`: the place, the bits of the flags, the text, and the variable that is set. None
+/// where the bytes aren't that. Source: this profile.
 pub fn place_flags_text_and_word(bytes: &[u8]) -> Option<(PlaceForm<&[u8]>, u32, &[u8], &[u8])>
     requires { length bytes.now ≤ 262144 }
     ensures found { IfSome result (λ parts.

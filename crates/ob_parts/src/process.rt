@@ -1,4 +1,4 @@
-//! Parts of the lines that speak of processes: process words, handles in front of them, and inheritance.
+//! Parts of the lines that speak of processes: process variables, handles in front of them, and inheritance.
 
 ghost use Rattle.std.specs.Prelude.{◌≡◌, ◌≢◌, ◌≤◌, ◌++◌, ℕ, Bool, List, length, codes, IfSome, IfNone};
 ghost use Rattle.ob_parts.specs.declared.handle.HandleForm.{HandleForm};
@@ -9,7 +9,7 @@ use crate::split::{behind, split_at};
 use crate::text::is_process_word;
 
 /// The handle with which the bytes begin, `H`, and what follows it and a space: none where they begin with no
-/// handle. Takes no memory. Source: this profile.
+/// handle. Source: this profile.
 pub fn take_handle(bytes: &[u8]) -> Option<(HandleForm<&[u8]>, &[u8])>
     ensures found { IfSome result (λ found.
         BeginsWithHandle bytes.now (handle_seen found.0) found.1.now) }
@@ -22,8 +22,8 @@ pub fn take_handle(bytes: &[u8]) -> Option<(HandleForm<&[u8]>, &[u8])>
     Some((handle, rest))
 }
 
-/// The process word with which the bytes begin, `P` or `Q`, and what follows it and a space: none where they
-/// begin with no word, or with one of the language's own. Takes no memory. Source: this profile.
+/// The process variable with which the bytes begin, `P` or `Q`, and what follows it and a space: none where they
+/// begin with no word, or with one of the language's own. Source: this profile.
 pub fn take_process(bytes: &[u8]) -> Option<(&[u8], &[u8])>
     ensures found { IfSome result (λ found. BeginsWithProcess bytes.now found.0.now found.1.now) }
     ensures shorter { IfSome result (λ found. length found.1.now ≤ length bytes.now) }
@@ -38,7 +38,7 @@ pub fn take_process(bytes: &[u8]) -> Option<(&[u8], &[u8])>
 }
 
 /// The inheritance with which the bytes begin, and what follows it and a space: true for `inherit`, false for
-/// `plain`, none where they begin with neither. Takes no memory. Source: this profile.
+/// `plain`, none where they begin with neither. Source: this profile.
 pub fn take_inherit(bytes: &[u8]) -> Option<(bool, &[u8])>
     ensures found { IfSome result (λ found. BeginsWithInherit bytes.now found.0 found.1.now) }
     ensures shorter { IfSome result (λ found. length found.1.now ≤ length bytes.now) }
@@ -52,7 +52,7 @@ pub fn take_inherit(bytes: &[u8]) -> Option<(bool, &[u8])>
     Some((true, rest))
 }
 
-/// The process word that is set, where the bytes are `=Q`: none where they aren't. Takes no memory. Source: this
+/// The process variable that is set, where the bytes are `=Q`: none where they aren't. Source: this
 /// profile.
 pub fn process_set(bytes: &[u8]) -> Option<&[u8]>
     ensures found { IfSome result (λ process. SetsProcess bytes.now process.now) }

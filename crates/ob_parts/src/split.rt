@@ -5,8 +5,8 @@ ghost use Rattle.ob_parts.specs.Text.{Lacks};
 
 use memchr::memchr;
 
-/// What stands before the first byte of this value, and what follows it: none where the bytes have no such
-/// byte. Takes no memory. Source: this profile.
+/// What precedes the first byte of this value, and what follows it: none where the bytes have no such
+/// byte. Source: this profile.
 pub fn split_at(bytes: &[u8], mark: u8) -> Option<(&[u8], &[u8])>
     ensures found { IfSome result (λ parts. (bytes.now ≡ parts.0.now ++ (mark ∷ parts.1.now))
         × Lacks mark parts.0.now) }
@@ -16,7 +16,7 @@ pub fn split_at(bytes: &[u8], mark: u8) -> Option<(&[u8], &[u8])>
     Some((&bytes[..place], &bytes[place + 1..]))
 }
 
-/// What follows a front: none where the bytes begin otherwise. Takes no memory. Source: this profile.
+/// What follows a front: none where the bytes begin otherwise. Source: this profile.
 pub fn behind<'a>(bytes: &'a [u8], front: &[u8]) -> Option<&'a [u8]>
     ensures found { IfSome result (λ rest. bytes.now ≡ front.now ++ rest.now) }
     ensures none { IfNone result ((rest : List ℕ) → bytes.now ≢ front.now ++ rest) }

@@ -22,7 +22,7 @@ pub fn is_word(bytes: &[u8]) -> bool
         && others.len() <= 31
 }
 
-// Whether the bytes are a process word.
+// Whether the bytes are a process variable.
 pub fn is_process_word(bytes: &[u8]) -> bool
     ensures { IsTrue result ↔ IsProcessWord bytes.now }
 {

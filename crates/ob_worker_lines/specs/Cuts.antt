@@ -53,7 +53,7 @@ abbrev pub IsEnd : List Lines → Lines → Lines → Type 0
 IsEnd workers behind end = ((end ≡ []) × (behind ≡ [])) ⊎ ((workers ≢ []) × (end ≡ join_line ∷ behind))
 
 -- The lines are cut into those of seat 0 before the workers, those of each worker, and those of seat 0 after them: one
--- after another they are all the lines, with `thread` before those of each worker, and `join`, where it stands,
+-- after another they are all the lines, with `thread` before those of each worker, and `join`, where there is one,
 -- before the last. Each is a line of a seat, and there are no more workers than there may be.
 pub record IsCut (lines before : Lines) (workers : List Lines) (behind : Lines) : Type 0 where
   pub end : Lines
@@ -68,7 +68,7 @@ pub record IsCut (lines before : Lines) (workers : List Lines) (behind : Lines) 
 abbrev pub CanBeCut : Lines → Type 0
 CanBeCut lines = (before behind : Lines) × (workers : List Lines) × IsCut lines before workers behind
 
--- the line of this number is the first that is no line of a script with workers or stands in a wrong place: the lines
+-- the line of this number is the first that is no line of a script with workers or is in a wrong place: the lines
 -- before it are those of such a script, and no such script begins with them and it
 pub record IsBadLine (lines : Lines) (number : ℕ) : Type 0 where
   pub good : Lines

@@ -36,7 +36,7 @@ IsRunnable size part = AreSeatLines (lines_in part) × (part.first + length (lin
 abbrev pub AreRunnable : ℕ → WorkerScript → Type 0
 AreRunnable size cut = IsRunnable size cut.before × All (IsRunnable size) cut.workers.items × IsRunnable size cut.behind
 
--- what is told of the lines where they are not cut; a lack of memory says nothing of them
+-- what the fault says of the lines that are not cut; out of memory says nothing of them
 abbrev pub IsFault : Lines → CutFault → Type 0
 IsFault lines (BadLine number) = IsBadLine lines number
 IsFault lines Memory = Unit {0}
@@ -62,7 +62,7 @@ IsBehind has_workers lines number part =
     ((lines ≡ []) × (lines_in part ≡ []) × (part.first ≡ number))
     ⊎ ((has_workers ≡ true) × (lines ≡ join_line ∷ lines_in part) × AreSeatLines (lines_in part) × (part.first ≡ number + 1))
 
--- the line stands in a wrong place after the lines of the workers: it is the first there, and no `join` that may stand
+-- the line is in a wrong place after the lines of the workers: it is the first there, and no `join` that may be
 -- there; or it follows `join` and is no line of a seat
 abbrev pub IsMisplaced : Bool → Lines → ℕ → ℕ → Type 0
 IsMisplaced has_workers lines number bad =

@@ -11,7 +11,7 @@ use crate::line::behind_seat_line;
 /// another by [`read_seat_line`](crate::read_seat_line), they have the numbers from `first` on. (this profile)
 #[derive(Clone, Copy, Debug)]
 pub struct Part<'a> {
-    /// The lines, as they stand in the script: whole lines, of which the last may lack its LF.
+    /// The lines, as they are in the script: whole lines, of which the last may lack its LF.
     pub text: &'a [u8],
     /// The number that its first line has in the script, from 1; where the part has no line, the number
     /// that a line there would have.

@@ -35,11 +35,11 @@ pub struct WorkerScript<'a> {
 /// Why a script was not cut. (this profile)
 #[derive(Clone, Copy, PartialEq, Eq, Debug)]
 pub enum CutFault {
-    /// The line of this number, from 1, is the first that is no line of a script with workers, or stands in
+    /// The line of this number, from 1, is the first that is no line of a script with workers, or is in
     /// a wrong place: a 64th `thread`, a `thread` after `join`, a `join` before any `thread`, or a second
     /// `join`.
     BadLine(u64),
-    /// Memory was wanted and there was none.
+    /// Out of memory.
     Memory,
 }
 
@@ -86,7 +86,7 @@ pub fn cut(alloc: Global, script: &[u8]) -> Result<WorkerScript<'_>, CutFault>
     }
 }
 
-// The part after `join`, or an empty one at the end of the script; else the number of the line that stands in a
+// The part after `join`, or an empty one at the end of the script; else the number of the line that is in a
 // wrong place. The first line of what is left has the number that is given.
 fn take_behind(rest: &[u8], number: u64, has_workers: bool) -> Result<Part<'_>, u64>
     requires { number + length rest.now < 2 ^ 64 }

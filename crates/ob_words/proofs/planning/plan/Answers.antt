@@ -24,3 +24,6 @@ returns-in-Err-try_get_matches_from-clause-alone g c =
 
 pub returns-in-Err-try_get_matches_from-clause-kinds : goal.returns-in-Err-try_get_matches_from-clause-kinds
 returns-in-Err-try_get_matches_from-clause-kinds g c = kinds_as_stated _ _ c.in-Err-try_get_matches_from.fault c.in-Ok.ensures.app c.in-Err-try_get_matches_from.ensures.kinds
+
+pub returns-in-Some-clause-kinds : goal.returns-in-Some-clause-kinds
+returns-in-Some-clause-kinds g c = faultless_as_stated _ _ c.in-Ok.ensures.app c.in-Ok-try_get_matches_from.ensures.kinds

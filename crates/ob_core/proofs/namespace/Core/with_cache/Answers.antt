@@ -11,7 +11,7 @@ use Rattle.ob_core.proofs.namespace.Core.with_cache.Goals as goal
 pub invariant_of-result : goal.invariant_of-result
 invariant_of-result g c =
     let handles = c.start.ensures.handles ∙ ap (λ r. r.handles) c.new-processes.ensures in
-    let store = c.in_ok-opening_store.ensures.store in
+    let store = c.in_ok-store.ensures.store in
     let processes = c.in_ok-start.ensures.last ∙ ap (λ r. r.processes ++ record { number = 1; map = None } ∷ []) c.new-processes.ensures in
     subst (λ s. IsBetweenSteps g.T.TypeSet.idle s × IsReached g.T.TypeSet.procedures s)
     (sym (λ i. record (opening c.args.types) {
