@@ -4,14 +4,14 @@
 //! objects. [`call`] runs a command in it. The exports for C are those of the crate above.
 #![tactic(auto)]
 
-mod call;
 mod caller;
+mod calls;
 mod commands;
 mod machine;
 mod parts;
 
-pub use call::call;
 pub use caller::Ntns;
+pub use calls::call;
 pub use commands::{
     create_directory, create_link, create_object, create_shadowed, open_directory, open_link,
     open_object,
