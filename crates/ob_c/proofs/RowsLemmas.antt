@@ -6,7 +6,7 @@ use borrow.Rule.Slice.PartMut.{put_mid}
 use Rattle.ob_base.specs.declared.status.Status.{Status}
 use Rattle.ob_model.specs.declared.entries.Listed.{Listed}
 use Rattle.ob_model.specs.declared.reply.Reply.{Reply}
-use Rattle.ob_c.specs.Machine.{Space}
+use Rattle.ob_c_state.specs.Machine.{Space}
 use Rattle.ob_c.specs.Rows.{Asks, IsRead, Read, Reads, Takes, entry_in, names_of, names_room}
 use Rattle.ob_numbers.specs.Types.{IsTypeNumber}
 use Rattle.ob_c.specs.declared.rows.Row.{Row}

@@ -7,7 +7,7 @@ use Rattle.ob_base.specs.declared.status.Status.TheVariants.{Success, InvalidPar
 use Rattle.ob_drains.specs.Unnoticed.{with_change}
 use Rattle.ob_host.specs.Deletions.{next_deletion, behind_next}
 use Rattle.ob_host.specs.declared.deletion.HostDeletion.{HostDeletion}
-use Rattle.ob_c.specs.Machine.{Space}
+use Rattle.ob_c_state.specs.Machine.{Space}
 use Rattle.ob_numbers.specs.Types.{type_of_kind}
 use Rattle.ob_c.specs.declared.deletions.Deletion.{Deletion}
 

@@ -16,7 +16,7 @@ use Rattle.ob_model.specs.Settle.{is_permanent}
 use Rattle.ob_model.specs.State.{body_of, handle_count, held_of}
 use Rattle.ob_model.specs.declared.state.Body.{Body}
 use Rattle.ob_model.specs.declared.state.Held.{Held}
-use Rattle.ob_c.specs.Machine.{Space}
+use Rattle.ob_c_state.specs.Machine.{Space}
 use Rattle.ob_c.specs.Referents.{id_of_body, type_of_body, user_data_of_body}
 use Rattle.ob_c.specs.declared.listing.HandleRow.{HandleRow}
 

@@ -1,7 +1,4 @@
-pub mod Machine
-pub mod Caller
 pub mod Referents
-pub mod Calls
 pub mod Told
 pub mod Objects
 pub mod Texts

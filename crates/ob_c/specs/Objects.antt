@@ -12,7 +12,7 @@ use Rattle.ob_host.specs.Kinds.{same_kind}
 use Rattle.ob_host.specs.declared.kind.Kind.{Kind}
 use Rattle.ob_host.specs.declared.kind.Kind.TheVariants.{File, Key}
 use Rattle.ob_host.specs.declared.object.HostObject.{HostObject}
-use Rattle.ob_c.specs.Machine.{Space}
+use Rattle.ob_c_state.specs.Machine.{Space}
 use Rattle.ob_c.specs.Told.{Fills, FillsNothing}
 use Rattle.ob_c.specs.Referents.{id_of_body, type_of_body, user_data_of_body}
 

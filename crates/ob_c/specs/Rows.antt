@@ -12,8 +12,8 @@ use Rattle.ob_model.specs.declared.entries.Listed.{Listed}
 use Rattle.ob_model.specs.declared.reply.Given.{Given}
 use Rattle.ob_model.specs.declared.reply.Given.TheVariants.{Nothing, Handle, Text, Process, Page}
 use Rattle.ob_model.specs.declared.reply.Reply.{Reply}
-use Rattle.ob_c.specs.Machine.{Space}
-use Rattle.ob_c.specs.Calls.{Ends}
+use Rattle.ob_c_state.specs.Machine.{Space}
+use Rattle.ob_c_state.specs.Calls.{Ends}
 use Rattle.ob_c.specs.Told.{given_in}
 use Rattle.ob_numbers.specs.Types.{IsTypeNumber}
 use Rattle.ob_c.specs.declared.rows.Row.{Row}

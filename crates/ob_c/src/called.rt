@@ -1,32 +1,10 @@
-//! Calls of commands, and the reports of how they end.
+//! Reports of how calls of commands end.
 
 ghost use Rattle.std.specs.Prelude.{◌≡◌};
-ghost use Rattle.ob_c.specs.Calls.{CallsMade};
 ghost use Rattle.ob_c.specs.Told.{TellsHandle, status_in, handle_in, process_in};
 
-use crate::Ntns;
 use ob_base::Status;
-use ob_core::{Command, Given, Reply};
-use ob_host::Kind;
-use std::alloc::{AllocError, Global};
-
-/// Runs a command of a process to its reply, if the namespace is open. The errors are `InvalidParameter`, if it is
-/// closed, and `NoMemory`, if memory ran out while the command was made or run to its reply.
-pub(crate) fn call(
-    ns: &mut Ntns,
-    alloc: Global,
-    process: u32,
-    made: Result<Command<Kind>, AllocError>,
-) -> Result<Reply, Status>
-    ensures { CallsMade process made ns.old.core result ns.new.core }
-{
-    let Some(mut core) = ns.take(alloc) else {
-        return Err(Status::InvalidParameter);
-    };
-    let ended = core.run(alloc, process, made);
-    ns.put(core);
-    ended
-}
+use ob_core::{Given, Reply};
 
 /// The number of the status that a call ends with.
 pub(crate) fn status_in(ended: &Result<Reply, Status>) -> u32

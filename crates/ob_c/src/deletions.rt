@@ -4,9 +4,8 @@ ghost use Rattle.std.specs.Prelude.{◌≡◌, Some};
 ghost use Rattle.ob_host.specs.Deletions.{next_deletion};
 ghost use Rattle.ob_c.specs.Deletions.{TellsDeletion, TellsNext, deletion_told, no_deletion};
 
-use crate::Ntns;
-use crate::machine::HostCore;
 use ob_base::Status;
+use ob_c_state::{HostCore, Ntns};
 use ob_host::HostDeletion;
 use ob_numbers::type_of_kind;
 use std::alloc::Global;

@@ -1,12 +1,12 @@
 //! Exports that change handles, and the permanence of what they lead to.
 
 ghost use Rattle.ob_model.specs.declared.command.Command.TheVariants.{Close, Duplicate, MakePermanent, MakeTemporary, SetDeviceMap};
-ghost use Rattle.ob_c.specs.Calls.{Does};
+ghost use Rattle.ob_c_state.specs.Calls.{Does};
 ghost use Rattle.ob_c.specs.Told.{TellsHandle, TellsStatus};
 
-use crate::Ntns;
-use crate::called::{call, status_in, tell_handle};
+use crate::called::{status_in, tell_handle};
 use ob_base::{Handle, Proc};
+use ob_c_state::{Ntns, call};
 use ob_core::Command;
 use std::alloc::Global;
 

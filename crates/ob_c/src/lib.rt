@@ -9,25 +9,21 @@
 
 mod buffers;
 mod called;
-mod caller;
-mod commands;
 mod deletions;
 mod handles;
 mod lifecycle;
 mod listing;
-mod machine;
 mod naming;
 mod objects;
 mod opening;
 mod pages;
-mod parts;
 mod processes;
 mod queries;
 mod referents;
 mod rows;
 mod texts;
 
-pub use caller::Ntns;
 pub use deletions::Deletion;
 pub use listing::HandleRow;
+pub use ob_c_state::Ntns;
 pub use rows::Row;

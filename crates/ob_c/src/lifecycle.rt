@@ -1,11 +1,10 @@
 //! Exports that open and close a namespace.
 
 ghost use Rattle.std.specs.Prelude.{◌≡◌, None};
-ghost use Rattle.ob_c.specs.Calls.{IsOpened};
+ghost use Rattle.ob_c_state.specs.Calls.{IsOpened};
 
-use crate::Ntns;
-use crate::machine::HostCore;
 use ob_base::Status;
+use ob_c_state::{HostCore, Ntns};
 use std::alloc::Global;
 
 /// Opens a namespace: the opening state, with process 1 alone, in which nothing was opened or deleted.

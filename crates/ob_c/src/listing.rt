@@ -11,10 +11,9 @@ ghost use Rattle.ob_model.specs.State.{body_of, held_of};
 ghost use Rattle.ob_model.specs.declared.state.Body.{Body};
 ghost use Rattle.ob_c.specs.Handles.{TellsHandleOf, TellsHeld, TellsNextHandle, TellsNextIn, TellsNextProcess, context_after, count_told, flag_told, handle_told, no_handle};
 
-use crate::Ntns;
-use crate::machine::HostCore;
 use crate::referents::{id_of, type_of, user_data_of};
 use ob_base::{Handle, Proc, Status};
+use ob_c_state::{HostCore, Ntns};
 use ob_core::{Core, SlabTable};
 use ob_host::HostSet;
 use ob_model::Held;

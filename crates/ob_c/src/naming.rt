@@ -1,13 +1,12 @@
 //! Exports that create the object of a name.
 
 ghost use Rattle.ob_model.specs.declared.command.Command.TheVariants.{CreateDirectory, CreateShadowed, CreateLink, CreateObject};
-ghost use Rattle.ob_c.specs.Calls.{Does, DoesOfType, arguments_of, place_of};
+ghost use Rattle.ob_c_state.specs.Calls.{Does, DoesOfType, arguments_of, place_of};
 ghost use Rattle.ob_c.specs.Told.{TellsHandle};
 
-use crate::Ntns;
-use crate::called::{call, tell_handle};
-use crate::commands::{create_directory, create_link, create_object, create_shadowed};
+use crate::called::tell_handle;
 use ob_base::Status;
+use ob_c_state::{Ntns, call, create_directory, create_link, create_object, create_shadowed};
 use ob_numbers::kind_of;
 use std::alloc::Global;
 

@@ -2,15 +2,14 @@
 
 ghost use Rattle.std.specs.Prelude.{◌≡◌, ◌+◌, ◌<◌, ◌≤◌, ◌++◌, false, drop, length, take};
 ghost use Rattle.ob_model.specs.declared.command.Command.TheVariants.{QueryDirectory};
-ghost use Rattle.ob_c.specs.Calls.{Does};
+ghost use Rattle.ob_c_state.specs.Calls.{Does};
 ghost use Rattle.ob_c.specs.Pages.{PagesFit, TellsEntries, TellsPage, entry_bytes, page_bytes, room_left, room_within};
 ghost use Rattle.ob_numbers.specs.Texts.{zero_ended};
 
-use crate::Ntns;
 use crate::buffers::fill_nothing;
-use crate::called::call;
 use crate::queries::LARGEST_ROOM;
 use ob_base::{Handle, Status};
+use ob_c_state::{Ntns, call};
 use ob_core::{Command, Given, Reply};
 use ob_model::Listed;
 use std::alloc::Global;

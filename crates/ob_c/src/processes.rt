@@ -1,11 +1,11 @@
 //! Exports that begin and end processes.
 
 ghost use Rattle.ob_model.specs.declared.command.Command.TheVariants.{ExitProcess, NewProcess};
-ghost use Rattle.ob_c.specs.Calls.{Does};
+ghost use Rattle.ob_c_state.specs.Calls.{Does};
 ghost use Rattle.ob_c.specs.Told.{TellsProcess, TellsStatus};
 
-use crate::Ntns;
-use crate::called::{call, process_in, status_in};
+use crate::called::{process_in, status_in};
+use ob_c_state::{Ntns, call};
 use ob_core::Command;
 use std::alloc::Global;
 

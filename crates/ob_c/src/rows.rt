@@ -4,10 +4,9 @@ ghost use Rattle.std.specs.Prelude.{◌≡◌, ◌≤◌, ◌<◌, ◌+◌, ◌+
 ghost use Rattle.std.specs.Option.{option_map};
 ghost use Rattle.ob_c.specs.Rows.{Asks, FillsRows, Leaves, Takes, TellsProgress, TellsRows, entry_in, names_room, none_left, rows_status, status_of};
 
-use crate::Ntns;
-use crate::machine::HostCore;
 use crate::queries::LARGEST_ROOM;
 use ob_base::{Handle, Status};
+use ob_c_state::{HostCore, Ntns};
 use ob_core::{Command, Given, Reply};
 use ob_model::Listed;
 use ob_numbers::type_named;

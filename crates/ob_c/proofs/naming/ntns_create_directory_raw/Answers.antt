@@ -1,4 +1,4 @@
-use Rattle.ob_c.proofs.CallsLemmas.{does_made}
+use Rattle.ob_c_state.proofs.CallsLemmas.{does_made}
 use Rattle.ob_c.proofs.naming.ntns_create_directory_raw.Goals as goal
 
 pub returns : goal.returns

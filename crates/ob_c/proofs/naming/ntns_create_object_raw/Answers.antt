@@ -1,5 +1,5 @@
 use Rattle.std.proofs.Common.{inl}
-use Rattle.ob_c.proofs.CallsLemmas.{does_made}
+use Rattle.ob_c_state.proofs.CallsLemmas.{does_made}
 use Rattle.ob_c.proofs.naming.ntns_create_object_raw.Goals as goal
 
 pub returns : goal.returns

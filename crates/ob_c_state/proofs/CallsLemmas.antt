@@ -1,0 +1,60 @@
+-- Calls from what their parts do.
+use Rattle.std.proofs.Common.{◌≡◌, ◌≢◌, ℕ, zero, suc, arith, Option, None, Some, Result, Ok, Err, refl, sym, subst, inl, inr}
+use Rattle.std.specs.Prelude.{IfOk}
+use Rattle.ob_base.specs.declared.status.Status.{Status}
+use Rattle.ob_base.specs.declared.status.Status.TheVariants.{InvalidParameter}
+use Rattle.ob_model.specs.declared.command.Command.{Command}
+use Rattle.ob_model.specs.declared.reply.Reply.{Reply}
+use Rattle.ob_host.specs.declared.kind.Kind.{Kind}
+use Rattle.ob_c_state.specs.Machine.{Space}
+use Rattle.ob_c_state.specs.Calls.{HasBytes, Ends, Calls, Does, DoesOfAnyType, EndsMade, CallsMade}
+use Rattle.ob_numbers.specs.Types.{type_of_kind}
+
+module _ {E : Type 0} (p : ℕ) where
+  -- what was taken out of a caller's struct tells whether it was open
+  pub call_closed : (made : Result (Command Kind) E) (old new : Option Space) → None ≡ old → new ≡ None → CallsMade p made old (Err InvalidParameter) new
+  call_closed made old new is closed = subst (λ (o : Option Space). CallsMade p made o (Err InvalidParameter) new) is (refl, closed)
+
+  pub call_open : (made : Result (Command Kind) E) (old new : Option Space) (s t : Space) (ended : Result Reply Status) → Some s ≡ old → new ≡ Some t → EndsMade p made s ended t
+      → CallsMade p made old ended new
+  call_open made old new s t ended is put ends = subst (λ (o : Option Space). CallsMade p made o ended new) is (t, put, ends)
+
+  ends_made : (made : Result (Command Kind) E) (command : Command Kind) → HasBytes command → IfOk made (λ c. c ≡ command) → (s t : Space) (ended : Result Reply Status)
+      → EndsMade p made s ended t → Ends p command s ended t
+  ends_made (Ok c) command bytes is s t ended ends = subst (λ (d : Command Kind). Ends p d s ended t) is ends
+  ends_made (Err e) command bytes is s t ended ends = subst (λ (d : Result Reply Status). Ends p command s d t) (sym ends.0) (refl, inr (bytes, ends.1))
+
+  calls_made : (made : Result (Command Kind) E) (command : Command Kind) → HasBytes command → IfOk made (λ c. c ≡ command) → (old new : Option Space) (ended : Result Reply Status)
+      → CallsMade p made old ended new → Calls p command old ended new
+  calls_made made command bytes is None new ended calls = calls
+  calls_made made command bytes is (Some s) new ended calls = (calls.0, calls.1, ends_made made command bytes is s calls.0 ended calls.2)
+
+  -- a command that was made of bytes of the caller's
+  pub does_made : (made : Result (Command Kind) E) (command : Command Kind) → HasBytes command → IfOk made (λ c. c ≡ command) → (old new : Option Space) (ended : Result Reply Status)
+      → (Tells : Result Reply Status → Type 0) → CallsMade p made old ended new → Tells ended → Does p command old new Tells
+  does_made made command bytes is old new ended Tells calls tells = (ended, calls_made made command bytes is old new ended calls, tells)
+
+calls_ok : (E : Type 0) (p : ℕ) (command : Command Kind) (old new : Option Space) (ended : Result Reply Status) → CallsMade {E = E} p (Ok command) old ended new → Calls p command old ended new
+calls_ok E p command None new ended calls = calls
+calls_ok E p command (Some s) new ended calls = calls
+
+-- a command that takes no bytes
+pub does : (E : Type 0) (p : ℕ) (command : Command Kind) (old new : Option Space) (ended : Result Reply Status) (Tells : Result Reply Status → Type 0) → CallsMade {E = E} p (Ok command) old ended new
+    → Tells ended → Does p command old new Tells
+does E p command old new ended Tells calls tells = (ended, calls_ok E p command old new ended calls, tells)
+
+-- a command of any type, and of the kind of a number
+pub does_any_type : (n p : ℕ) (command : Option Kind → Command Kind) (old new : Option Space) (Tells : Result Reply Status → Type 0) → n ≡ 0 → Does p (command None) old new Tells
+    → DoesOfAnyType n p command old new Tells
+does_any_type zero p command old new Tells is does = does
+does_any_type (suc n) p command old new Tells is does = absurd (omega (arith, is))
+
+pub does_of_a_kind : (n p : ℕ) (command : Option Kind → Command Kind) (old new : Option Space) (Tells : Result Reply Status → Type 0) (kind : Kind) → n ≡ type_of_kind kind
+    → Does p (command (Some kind)) old new Tells → DoesOfAnyType n p command old new Tells
+does_of_a_kind zero p command old new Tells kind is does = absurd (omega (arith, is))
+does_of_a_kind (suc n) p command old new Tells kind is does = inl (kind, is, does)
+
+pub does_of_none : (n p : ℕ) (command : Option Kind → Command Kind) (old new : Option Space) (Tells : Result Reply Status → Type 0) → n ≢ 0 → ((kind : Kind) → n ≡ type_of_kind kind → ⊥)
+    → new ≡ old → Tells (Err InvalidParameter) → DoesOfAnyType n p command old new Tells
+does_of_none zero p command old new Tells some none same tells = absurd (some refl)
+does_of_none (suc n) p command old new Tells some none same tells = inr (none, same, tells)

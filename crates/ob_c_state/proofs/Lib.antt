@@ -1,0 +1,3 @@
+pub mod CallerSteps
+pub mod CallsLemmas
+pub mod OneStep
