@@ -144,6 +144,33 @@ static void refused(ntns *ns, uint32_t process, uint32_t handle, ntns_status sta
 	hold(leads_nowhere(ns, process, handle, looked_at), "a handle leads nowhere", handle);
 }
 
+/* Whether each field of a pending open is 0. */
+static bool is_no_open(const struct ntns_pending *pending)
+{
+	return pending->ticket == 0 && pending->id == 0 && pending->user_data == 0 && pending->type == 0;
+}
+
+/* Whether an open in two phases is refused with a status, and no open is pending. */
+static bool begins_nothing(ntns *ns, uint32_t process, uint32_t root, const char *name, size_t name_len, uint32_t attributes, uint32_t type, ntns_status status)
+{
+	struct ntns_pending pending;
+	uint32_t given = STALE;
+	size_t length = STALE;
+	char rest[4] = "abc";
+
+	memset(&pending, 0x5A, sizeof pending);
+	return ntns_begin_open(ns, process, root, name, name_len, attributes, type, &given, &pending, rest, sizeof rest, &length) == status && given == 0 &&
+	       length == 0 && is_no_open(&pending) && !strcmp(rest, "abc");
+}
+
+/* Whether no open is pending under a ticket. */
+static bool is_no_ticket(ntns *ns, uint64_t ticket)
+{
+	uint32_t given = STALE;
+
+	return ntns_end_open(ns, ticket, &given) == S(INVALID_PARAMETER) && given == 0 && ntns_cancel_open(ns, ticket) == S(INVALID_PARAMETER);
+}
+
 /* Whether each field of a deletion is 0. */
 static bool is_none(const struct ntns_deletion *deletion)
 {
@@ -184,6 +211,7 @@ static void closed_namespaces(void)
 		hold(ntns_next_deletion(&ns, &deletion) == S(INVALID_PARAMETER) && is_none(&deletion), "a closed one reports no deletion", round);
 		hold(reports_no_handle(&ns, 1, 4, S(INVALID_PARAMETER), S(INVALID_PARAMETER), 3), "nor a handle", round);
 		hold(ntns_next_process(&ns, &process) == S(INVALID_PARAMETER) && process == 5, "nor a process", round);
+		hold(begins_nothing(&ns, 1, 0, TEXT("\\D\\x"), 0, 0, S(INVALID_PARAMETER)) && is_no_ticket(&ns, 7), "nor has it a pending open", round);
 		hold(is_closed(&ns), "what is refused leaves it closed", round);
 		hold(ntns_open(&ns) == S(SUCCESS), "it is opened", round);
 		ntns before = ns;
@@ -424,6 +452,7 @@ static void types(void)
 	hold(ntns_type_name(UINT32_MAX) == NULL, "they have no names", 0);
 	hold(!strcmp(ntns_type_name(NTNS_TYPE_ALPC_PORT), "ALPC Port") && !strcmp(ntns_type_name(NTNS_TYPE_WMI_GUID), "WmiGuid"), "types have the names that Windows gives them", 0);
 	hold(!strcmp(ntns_status_text(S(PROCESS_GONE)), "PROCESS_GONE") && !strcmp(ntns_status_text(S(SUCCESS)), "SUCCESS"), "statuses have names", 0);
+	hold(!strcmp(ntns_status_text(S(PENDING)), "PENDING"), "a pending open's too", 0);
 	hold(ntns_status_text(1) == NULL && ntns_status_text(UINT32_MAX) == NULL, "and others none", 0);
 	ntns_close(&ns);
 }
@@ -524,6 +553,51 @@ static void handles_listed(void)
 	ntns_close(&ns);
 }
 
+static void opens_in_two_phases(void)
+{
+	static const uint64_t none[] = { 0, 1, 6, 7, 1 << 20, (uint64_t)1 << 32, (uint64_t)1 << 63, UINT64_MAX };
+	ntns ns = opened(), other = opened();
+	struct ntns_pending pending, again;
+	struct ntns_deletion deletion;
+	uint32_t device, given, type;
+	uint64_t user_data, id;
+	size_t length;
+	char rest[8];
+
+	ntns_create_object(&ns, 1, 0, TEXT("\\D"), 0, NTNS_TYPE_DEVICE, 9, &device);
+	ntns_query_object(&ns, 1, device, &type, &user_data, &id);
+	for (size_t place = 0; place < sizeof none / sizeof *none; place++)
+		hold(is_no_ticket(&ns, none[place]), "no open is pending at first", place);
+	for (size_t room = 0; room < sizeof rest; room++) {
+		memset(rest, 'z', sizeof rest);
+		memset(&pending, 0x5A, sizeof pending);
+		given = STALE;
+		ntns_status status = ntns_begin_open(&ns, 1, 0, TEXT("\\D\\xyz"), 0, NTNS_TYPE_FILE, &given, &pending, room ? rest : NULL, room, &length);
+		hold(status == (room < 4 ? S(BUFFER_TOO_SMALL) : S(PENDING)) && given == 0 && length == 4, "a rest fits its room, or not", room);
+		hold(!memcmp(rest, room < 4 ? "zzzz" : "\\xyz", 4) && rest[4] == 'z', "and no more is written", room);
+		if (room < 4)
+			hold(is_no_open(&pending), "where it doesn't fit no open is pending", room);
+		else
+			hold(pending.ticket && pending.id == id && pending.user_data == 9 && pending.type == NTNS_TYPE_DEVICE && ntns_cancel_open(&ns, pending.ticket) == S(SUCCESS),
+			     "an open is pending at a device", room);
+	}
+	hold(ntns_begin_open(&ns, 1, device, NULL, 0, 0, NTNS_TYPE_ANY, &given, &pending, NULL, 0, &length) == S(PENDING) && length == 0, "an empty rest needs no room", 0);
+	hold(ntns_begin_open(&ns, 1, device, TEXT("a"), 0, NTNS_TYPE_ANY, &given, &again, rest, 1, &length) == S(PENDING) && again.ticket != pending.ticket, "each open has its own ticket", 0);
+	hold(is_no_ticket(&other, pending.ticket), "another namespace doesn't know it", 0);
+	hold(ntns_close_handle(&ns, 1, device) == S(SUCCESS) && ntns_next_deletion(&ns, &deletion) == S(NO_MORE_ENTRIES), "what an open is pending at remains", 0);
+	hold(ntns_end_open(&ns, pending.ticket, &given) == S(SUCCESS) && given != 0 && is_no_ticket(&ns, pending.ticket), "an open is ended once", 0);
+	hold(ntns_cancel_open(&ns, again.ticket) == S(SUCCESS) && is_no_ticket(&ns, again.ticket), "or cancelled once", 0);
+	hold(ntns_next_deletion(&ns, &deletion) == S(SUCCESS) && deletion.id == id && deletion.type == NTNS_TYPE_DEVICE, "then the device goes", 0);
+	hold(ntns_next_deletion(&ns, &deletion) == S(NO_MORE_ENTRIES), "and no file of an open that was cancelled", 0);
+	hold(begins_nothing(&ns, 1, 0, NULL, 0, 0, NTNS_TYPE_ANY, S(OBJECT_PATH_SYNTAX_BAD)), "an open has a name", 0);
+	hold(begins_nothing(&ns, 1, 0, TEXT("\\No"), 0, NTNS_TYPE_ANY, S(OBJECT_NAME_NOT_FOUND)), "one that is there", 0);
+	hold(begins_nothing(&ns, 1, 0, TEXT("\\D"), 0x200, NTNS_TYPE_ANY, S(INVALID_PARAMETER)), "known attributes", 0);
+	hold(begins_nothing(&ns, 1, 0, TEXT("\\D"), 0, NTNS_TYPE_DIRECTORY, S(INVALID_PARAMETER)), "a type of the caller's", 0);
+	hold(begins_nothing(&ns, 5, 0, TEXT("\\D"), 0, NTNS_TYPE_ANY, S(PROCESS_GONE)), "and a process", 0);
+	ntns_close(&ns);
+	ntns_close(&other);
+}
+
 static void two_namespaces(void)
 {
 	ntns one = opened(), other = opened();
@@ -556,6 +630,7 @@ int main(void)
 	attributes();
 	handles_and_processes();
 	handles_listed();
+	opens_in_two_phases();
 	two_namespaces();
 	printf("%d passed, %d failed\n", passed, failed);
 	return failed != 0;

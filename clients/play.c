@@ -41,8 +41,23 @@ static uint32_t handle_of(const struct play *play, const struct step *step)
 	return value_of(play, step, step->handle);
 }
 
+/* Begins an open, with room for so many bytes of its rest. */
+static void begin_open(struct play *play, const struct step *step, struct answer *answer, const char *name, size_t length, size_t capacity)
+{
+	struct ntns_pending pending;
+
+	memset(&pending, STALE, sizeof pending);
+	memset(&answer->length, STALE, sizeof answer->length);
+	answer->status = ntns_begin_open(&play->ns, play->processes[(int)step->process], handle_of(play, step), name, length, step->attributes,
+					 step->type, &answer->number, &pending, answer->text, capacity, &answer->length);
+	answer->ticket = pending.ticket;
+	answer->type = pending.type;
+	answer->user_data = pending.user_data;
+	answer->id = pending.id;
+}
+
 /* Makes the call of a create or an open. */
-static void call_by_name(struct play *play, const struct step *step, struct answer *answer)
+static void call_by_name(struct play *play, const struct step *step, struct answer *answer, size_t capacity)
 {
 	static char names[TEXT_ROOM], targets[TEXT_ROOM];
 	ntns *ns = &play->ns;
@@ -71,6 +86,9 @@ static void call_by_name(struct play *play, const struct step *step, struct answ
 		break;
 	case OPEN_LINK:
 		answer->status = ntns_open_link(ns, process, root, name, length, step->attributes, &answer->number);
+		break;
+	case BEGIN_OPEN:
+		begin_open(play, step, answer, name, length, capacity);
 		break;
 	default:
 		answer->status = ntns_open_object(ns, process, root, name, length, step->attributes, step->type, &answer->number);
@@ -175,8 +193,16 @@ struct answer play_call(struct play *play, const struct step *step, char *text, 
 	case OPEN_DIRECTORY:
 	case OPEN_LINK:
 	case OPEN_OBJECT:
+	case BEGIN_OPEN:
 		memset(&answer.number, STALE, sizeof answer.number);
-		call_by_name(play, step, &answer);
+		call_by_name(play, step, &answer, capacity);
+		break;
+	case END_OPEN:
+		memset(&answer.number, STALE, sizeof answer.number);
+		answer.status = ntns_end_open(ns, play->tickets[(int)step->ticket], &answer.number);
+		break;
+	case CANCEL_OPEN:
+		answer.status = ntns_cancel_open(ns, play->tickets[(int)step->ticket]);
 		break;
 	case CLOSE_HANDLE:
 		answer.status = ntns_close_handle(ns, process, handle);
@@ -243,7 +269,9 @@ void play_keep(struct play *play, const struct step *step, const struct answer *
 		play->contexts[process][(int)step->handle] = answer->context;
 		break;
 	default:
-		if (step->kept) {
+		if (answer->ticket)
+			play->tickets[kept] = answer->ticket;
+		else if (step->kept) {
 			play->handles[process][kept] = answer->number;
 			play->contexts[process][kept] = 0;
 		}
@@ -260,13 +288,13 @@ static bool tells_page(enum call call)
 /* Whether a call tells a text, where it succeeds. */
 static bool tells_text(enum call call)
 {
-	return call == QUERY_LINK || call == QUERY_NAME || call == QUERY_FILE || call == FIRST_ENTRY || call == NEXT_ENTRY;
+	return call == BEGIN_OPEN || call == QUERY_LINK || call == QUERY_NAME || call == QUERY_FILE || call == FIRST_ENTRY || call == NEXT_ENTRY;
 }
 
 /* Writes the text that a step tells, where it succeeds; its length. */
 static size_t wanted_text(const struct step *step, char *full)
 {
-	size_t length = NTNS_SUCCEEDED(step->status) ? play_text(step->text, full) : 0;
+	size_t length = NTNS_SUCCEEDED(step->status) && step->text ? play_text(step->text, full) : 0;
 
 	for (size_t place = 0; tells_page(step->call) && place < length; place++)
 		if (full[place] == '|')
@@ -277,7 +305,19 @@ static size_t wanted_text(const struct step *step, char *full)
 /* Whether a call gives a handle or a process, where it succeeds. */
 static bool gives_number(enum call call)
 {
-	return (call >= CREATE_DIRECTORY && call <= OPEN_OBJECT) || call == DUPLICATE_HANDLE || call == NEW_PROCESS;
+	return (call >= CREATE_DIRECTORY && call <= END_OPEN) || call == DUPLICATE_HANDLE || call == NEW_PROCESS;
+}
+
+/* What is wrong with what an answer tells of a pending open, or NULL. */
+static const char *fault_of_pending(const struct step *step, const struct answer *answer)
+{
+	bool is_pending = step->status == S(PENDING);
+
+	if (is_pending != (answer->ticket != 0) || is_pending != (answer->id != 0))
+		return "a ticket or an id where no open is pending, or none where one is";
+	if (answer->type != (is_pending ? step->met : 0) || answer->user_data != (is_pending ? step->user_data : 0))
+		return "another object at which the open is pending";
+	return NULL;
 }
 
 const char *play_fault(const struct step *step, const struct answer *answer)
@@ -288,7 +328,7 @@ const char *play_fault(const struct step *step, const struct answer *answer)
 
 	if (answer->status != step->status)
 		return ntns_status_text(answer->status) ? ntns_status_text(answer->status) : "a status without a name";
-	if (gives_number(step->call) && has_succeeded != (answer->number != 0))
+	if (gives_number(step->call) && (has_succeeded && step->status != S(PENDING)) != (answer->number != 0))
 		return "a number where nothing was given, or none where it was";
 	if (gives_number(step->call) && step->call != NEW_PROCESS && answer->number % 4)
 		return "a handle that is no multiple of four";
@@ -307,7 +347,7 @@ const char *play_fault(const struct step *step, const struct answer *answer)
 		return "an id where nothing was found, or none where it was";
 	if (step->call == NEXT_DELETION && !has_succeeded && (answer->id || answer->parsed))
 		return "something of a deletion where there is none";
-	return NULL;
+	return step->call == BEGIN_OPEN ? fault_of_pending(step, answer) : NULL;
 }
 
 /* Whether so many bytes, and no others, were left as they were. */
@@ -328,6 +368,8 @@ static const char *fault_of_rooms(struct play *play, const struct step *step, co
 	struct answer answer = play_call(play, step, text, whole->length);
 	if (answer.status != whole->status || answer.length != whole->length || memcmp(text, whole->text, whole->length))
 		return "another answer where there is just the room";
+	if (answer.ticket && ntns_cancel_open(&play->ns, answer.ticket) != S(SUCCESS))
+		return "an open that isn't pending where there is just the room";
 	if (!is_stale(text, whole->length, sizeof text))
 		return "a byte behind the room is written";
 	if (whole->length == 0)
@@ -336,8 +378,8 @@ static const char *fault_of_rooms(struct play *play, const struct step *step, co
 	answer = play_call(play, step, text, whole->length - 1);
 	if (answer.status != S(BUFFER_TOO_SMALL) || answer.length != whole->length)
 		return "another answer where a byte of room is missing";
-	if (!is_stale(text, 0, sizeof text))
-		return "a byte is written where room is missing";
+	if (!is_stale(text, 0, sizeof text) || answer.ticket)
+		return "a byte is written, or an open pending, where room is missing";
 	if (step->call == NEXT_ENTRY && answer.context != play->contexts[(int)step->process][(int)step->handle])
 		return "the context moves where room is missing";
 	return NULL;
@@ -359,7 +401,7 @@ static const char *fault_of_object(struct play *play, const struct step *step, u
 	if (known->type && (known->type != type || known->user_data != user_data))
 		return "an id of another object";
 	if (!known->type)
-		known->parsed = step->call == OPEN_OBJECT;
+		known->parsed = step->call == OPEN_OBJECT || step->call == END_OPEN;
 	known->type = type;
 	known->user_data = user_data;
 	return NULL;
@@ -384,7 +426,9 @@ static const char *fault_of_deletion(struct play *play, const struct answer *ans
 /* Keeps account of the caller's objects; what is wrong with them, or NULL. */
 static const char *fault_of_account(struct play *play, const struct step *step, const struct answer *answer)
 {
-	if (step->call >= CREATE_DIRECTORY && step->call <= OPEN_OBJECT && NTNS_SUCCEEDED(answer->status))
+	if (answer->ticket && answer->id < IDS && play->known[answer->id].type != answer->type)
+		return "the id of an object at which no open is pending";
+	if (step->call >= CREATE_DIRECTORY && step->call <= END_OPEN && answer->number)
 		return fault_of_object(play, step, answer->number);
 	if (step->call == NEXT_DELETION && answer->status == S(SUCCESS))
 		return fault_of_deletion(play, answer);
@@ -399,7 +443,8 @@ const char *play_step(struct play *play, const struct step *step)
 	for (uint32_t time = 0; !fault && time < (step->times ? step->times : 1); time++) {
 		struct answer answer = play_call(play, step, text, sizeof text);
 		fault = play_fault(step, &answer);
-		if (!fault && tells_text(step->call) && answer.status == S(SUCCESS))
+		bool is_told = answer.status == (step->call == BEGIN_OPEN ? S(PENDING) : S(SUCCESS));
+		if (!fault && tells_text(step->call) && is_told)
 			fault = fault_of_rooms(play, step, &answer);
 		if (!fault)
 			fault = fault_of_account(play, step, &answer);

@@ -16,6 +16,9 @@ enum call {
 	OPEN_DIRECTORY,
 	OPEN_LINK,
 	OPEN_OBJECT,
+	BEGIN_OPEN,
+	END_OPEN,
+	CANCEL_OPEN,
 	CLOSE_HANDLE,
 	DUPLICATE_HANDLE,
 	MAKE_TEMPORARY,
@@ -45,11 +48,13 @@ struct step {
 	const char *name;    /* the name; NULL for none; {N:c} in it is N times the character c */
 	uint32_t attributes;
 	uint32_t type;       /* the type that is made, wanted or told */
+	uint32_t met;        /* the type of the object at which an open is pending */
 	uint64_t user_data;  /* the user data that is given or reported, or the room of a page, or the places for rows; 0 is all */
 	const char *text;    /* a link's target, or the text that is told; in a page '|' stands for the 0 behind each name, as in rows, which are told as a page */
 	bool inherit;
 	char to;             /* the process that gets a duplicate */
-	char kept;           /* the letter that the handle, or the process, is kept under */
+	char kept;           /* the letter that the handle, the process, or the ticket of a pending open is kept under */
+	char ticket;         /* the letter of the ticket that is ended or cancelled */
 	uint32_t times;      /* how often the step is made; 0 is once */
 	ntns_status status;  /* what is answered */
 };
@@ -67,6 +72,10 @@ struct step {
 #define OPENDIR(p, root, n, a, k, s) .call = OPEN_DIRECTORY, .process = p, .handle = root, .name = n, .attributes = a, .kept = k, .status = S(s)
 #define OPENLINK(p, root, n, a, k, s) .call = OPEN_LINK, .process = p, .handle = root, .name = n, .attributes = a, .kept = k, .status = S(s)
 #define OPEN(p, t, root, n, a, k, s) .call = OPEN_OBJECT, .process = p, .type = T(t), .handle = root, .name = n, .attributes = a, .kept = k, .status = S(s)
+#define BEGINS(p, t, root, n, a, k, s) .call = BEGIN_OPEN, .process = p, .type = T(t), .handle = root, .name = n, .attributes = a, .kept = k, .status = S(s)
+#define PENDS(p, t, root, n, a, k, m, w, r) .call = BEGIN_OPEN, .process = p, .type = T(t), .handle = root, .name = n, .attributes = a, .kept = k, .met = T(m), .user_data = w, .text = r, .status = S(PENDING)
+#define ENDS(p, n, k, s) .call = END_OPEN, .process = p, .ticket = n, .kept = k, .status = S(s)
+#define CANCELS(n, s) .call = CANCEL_OPEN, .ticket = n, .status = S(s)
 #define CLOSE(p, h, s) .call = CLOSE_HANDLE, .process = p, .handle = h, .status = S(s)
 #define DUPLICATE(p, h, q, i, k, s) .call = DUPLICATE_HANDLE, .process = p, .handle = h, .to = q, .inherit = i, .kept = k, .status = S(s)
 #define TEMPORARY(p, h, s) .call = MAKE_TEMPORARY, .process = p, .handle = h, .status = S(s)
@@ -110,6 +119,7 @@ struct play {
 	uint32_t processes[128];
 	uint32_t handles[128][128];
 	uint64_t contexts[128][128];
+	uint64_t tickets[128];
 	struct known known[IDS];
 };
 
@@ -118,7 +128,7 @@ struct answer {
 	ntns_status status;
 	uint32_t number; /* a handle, or a process */
 	uint32_t type;
-	uint64_t user_data, id, context;
+	uint64_t user_data, id, context, ticket;
 	bool parsed;
 	size_t length;
 	char *text;      /* TEXT_ROOM bytes, of the play's */

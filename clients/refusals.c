@@ -62,6 +62,20 @@ static const struct step steps[] = {
 	{ DELETED(FILE, 1) },
 	{ OPEN('p', FILE, 0, "\\D\\x", E, 'j', INVALID_PARAMETER) },
 	{ DELETED(FILE, 1) },
+	{ PENDS('p', FILE, 0, "\\D\\{300:y}", 0, 'a', DEVICE, 1, "\\{300:y}") },
+	{ PENDS('p', ANY, 'd', "y", 0, 'b', DEVICE, 1, "y") },
+	{ PENDS('p', DEVICE, 0, "\\D\\z", 0, 'c', DEVICE, 1, "\\z") },
+	{ PENDS('p', KEY, 0, "\\K", 0, 'd', KEY, 2, "") },
+	{ BEGINS('p', EVENT, 0, "\\A\\L\\E", 0, 'J', SUCCESS) },
+	{ BEGINS('p', EVENT, 0, "\\A\\L\\F", 0, 'L', OBJECT_NAME_NOT_FOUND) },
+	{ CLOSE('p', 'J', SUCCESS) },
+	{ ENDS('p', 'a', 'K', SUCCESS) },
+	{ CANCELS('b', SUCCESS) },
+	{ ENDS('p', 'c', 'L', OBJECT_TYPE_MISMATCH) },
+	{ DELETED(FILE, 1) },
+	{ ENDS('p', 'd', 'L', SUCCESS) },
+	{ CLOSE('p', 'L', SUCCESS) },
+	{ REST('p', 'K', "\\{300:y}", SUCCESS) },
 	{ OPEN('p', KEY, 0, "\\K", 0, 'j', SUCCESS) },
 	{ OPEN('p', KEY, 0, "\\K\\S", 0, 'q', SUCCESS) },
 	{ OPEN('p', KEY, 'q', "X", 0, 'r', SUCCESS) },
@@ -187,7 +201,7 @@ static const char *name_of(ntns_status status)
 /* Whether a call can take memory. */
 static bool takes_memory(enum call call)
 {
-	return call != CLOSE_HANDLE && call != MAKE_TEMPORARY && call != MAKE_PERMANENT && call != EXIT_PROCESS && call != QUERY_FILE &&
+	return call != CANCEL_OPEN && call != CLOSE_HANDLE && call != MAKE_TEMPORARY && call != MAKE_PERMANENT && call != EXIT_PROCESS && call != QUERY_FILE &&
 	       call != QUERY_OBJECT && call != NEXT_DELETION;
 }
 
@@ -322,7 +336,7 @@ static bool is_nothing_deleted(ntns *ns, const struct step *step)
 
 	while (ntns_next_deletion(ns, &deletion) == S(SUCCESS)) {
 		reported++;
-		if (step->call != OPEN_OBJECT || (deletion.type != NTNS_TYPE_FILE && deletion.type != NTNS_TYPE_KEY) || deletion.id || !deletion.parsed)
+		if ((step->call != OPEN_OBJECT && step->call != END_OPEN) || (deletion.type != NTNS_TYPE_FILE && deletion.type != NTNS_TYPE_KEY) || deletion.id || !deletion.parsed)
 			return false;
 	}
 	return reported <= 1;
@@ -351,6 +365,18 @@ static bool answers_as_ever(struct play *play, size_t number)
 	return is_well;
 }
 
+/* Begins anew the open that a call ended, which was refused memory and gave it up; whether that is as ever. */
+static bool begins_again(struct play *play, size_t number)
+{
+	size_t before = number;
+
+	if (ntns_cancel_open(&play->ns, play->tickets[(int)made[number]->ticket]) != S(INVALID_PARAMETER))
+		return false;
+	while (before && (made[before]->call != BEGIN_OPEN || made[before]->kept != made[number]->ticket))
+		before--;
+	return answers_as_ever(play, before);
+}
+
 /* Makes a call with a request refused; what is wrong with what it answers and leaves, or NULL. Where nothing was refused `refused` is 0. */
 static const char *fault_of_call(struct play *play, size_t number, unsigned long at)
 {
@@ -367,6 +393,8 @@ static const char *fault_of_call(struct play *play, size_t number, unsigned long
 	const char *fault = fault_of_refused(made[number], &answer, &before, &after);
 	if (!fault && !is_nothing_deleted(&play->ns, made[number]))
 		fault = "something is told as deleted";
+	if (!fault && made[number]->call == END_OPEN && !begins_again(play, number))
+		fault = "an open that isn't given up";
 	if (!fault && !answers_as_ever(play, number))
 		fault = "another answer when it is made again";
 	return fault;

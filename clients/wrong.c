@@ -235,6 +235,84 @@ INSTEAD(ntns_status, ntns_next_rows, ntns *ns, uint32_t process, uint32_t handle
 	return __real_ntns_next_rows(ns, process, handle, context, rows, count, buffer, capacity);
 }
 
+#elif defined OPENS_IN_ONE_PHASE
+INSTEAD(ntns_status, ntns_begin_open, ntns *ns, uint32_t process, uint32_t root, const char *name, size_t length, uint32_t attributes, uint32_t type, uint32_t *handle,
+	struct ntns_pending *pending, char *rest, size_t capacity, size_t *needed)
+{
+	ntns_status status = __real_ntns_begin_open(ns, process, root, name, length, attributes, type, handle, pending, rest, capacity, needed);
+	if (status != S(PENDING))
+		return status;
+	status = ntns_end_open(ns, pending->ticket, handle);
+	*pending = (struct ntns_pending){ 0 };
+	*needed = 0;
+	return status;
+}
+
+#elif defined REST_LOSES_ITS_BACKSLASH
+INSTEAD(ntns_status, ntns_begin_open, ntns *ns, uint32_t process, uint32_t root, const char *name, size_t length, uint32_t attributes, uint32_t type, uint32_t *handle,
+	struct ntns_pending *pending, char *rest, size_t capacity, size_t *needed)
+{
+	ntns_status status = __real_ntns_begin_open(ns, process, root, name, length, attributes, type, handle, pending, rest, capacity, needed);
+	if (status == S(PENDING) && *needed && rest[0] == '\\') {
+		--*needed;
+		for (size_t place = 0; place < *needed; place++)
+			rest[place] = rest[place + 1];
+	}
+	return status;
+}
+
+#elif defined PENDING_AT_ANOTHER_OBJECT
+INSTEAD(ntns_status, ntns_begin_open, ntns *ns, uint32_t process, uint32_t root, const char *name, size_t length, uint32_t attributes, uint32_t type, uint32_t *handle,
+	struct ntns_pending *pending, char *rest, size_t capacity, size_t *needed)
+{
+	ntns_status status = __real_ntns_begin_open(ns, process, root, name, length, attributes, type, handle, pending, rest, capacity, needed);
+	pending->id += status == S(PENDING);
+	return status;
+}
+
+#elif defined PENDING_WITHOUT_ROOM
+/* Leaves an open pending whose rest doesn't fit. */
+INSTEAD(ntns_status, ntns_begin_open, ntns *ns, uint32_t process, uint32_t root, const char *name, size_t length, uint32_t attributes, uint32_t type, uint32_t *handle,
+	struct ntns_pending *pending, char *rest, size_t capacity, size_t *needed)
+{
+	static char whole[1 << 16];
+	ntns_status status = __real_ntns_begin_open(ns, process, root, name, length, attributes, type, handle, pending, rest, capacity, needed);
+	if (status == S(BUFFER_TOO_SMALL)) {
+		__real_ntns_begin_open(ns, process, root, name, length, attributes, type, handle, pending, whole, sizeof whole, needed);
+		*pending = (struct ntns_pending){ 0 };
+	}
+	return status;
+}
+
+#elif defined TICKET_SERVES_TWICE
+INSTEAD(ntns_status, ntns_cancel_open, ntns *ns, uint64_t ticket)
+{
+	__real_ntns_cancel_open(ns, ticket);
+	return ns->words[0] ? S(SUCCESS) : S(INVALID_PARAMETER);
+}
+
+#elif defined CANCELLED_IS_OPENED
+/* Ends the open, and closes its handle. */
+INSTEAD(ntns_status, ntns_cancel_open, ntns *ns, uint64_t ticket)
+{
+	uint32_t handle;
+	ntns_status status = ntns_end_open(ns, ticket, &handle);
+	if (handle)
+		ntns_close_handle(ns, 1, handle);
+	return status == S(INVALID_PARAMETER) ? status : S(SUCCESS);
+}
+
+#elif defined REFUSED_END_LEAVES_IT_PENDING
+/* Says that an open is pending again, by a ticket that serves. */
+INSTEAD(ntns_status, ntns_end_open, ntns *ns, uint64_t ticket, uint32_t *handle)
+{
+	static uint64_t refused;
+	ntns_status status = __real_ntns_end_open(ns, ticket, handle);
+	if (status == S(OBJECT_TYPE_MISMATCH))
+		refused = ticket;
+	return status == S(INVALID_PARAMETER) && ticket == refused ? S(OBJECT_TYPE_MISMATCH) : status;
+}
+
 #elif defined OTHER_USER_DATA
 INSTEAD(ntns_status, ntns_create_object, ntns *ns, uint32_t process, uint32_t root, const char *name, size_t length, uint32_t attributes, uint32_t type, uint64_t user_data, uint32_t *handle)
 {

@@ -126,7 +126,7 @@ def of_documents():
     yield "the map names each crate", [it for it in listed() if it not in map_page and not it.endswith("_tests")], []
     yield "each link leads somewhere", [*broken_links()], []
     for document, language, folder, pieces in SHOWN:
-        source = "".join(path.read_text() for path in sorted((ROOT / folder).glob("*.*")))
+        source = "".join(path.read_text() for path in sorted(ROOT.glob(f"{folder}/*.*")))
         shown = re.findall(rf"\n```{language}\n(.*?)```\n", (ROOT / document).read_text(), re.DOTALL)
         yield f"what {document} shows stands in {folder}", [text for text in shown if text not in source], []
         yield f"{document} shows code", len(shown), pieces

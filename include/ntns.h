@@ -61,6 +61,7 @@ typedef uint32_t ntns_status;
 #define NTNS_SUCCEEDED(status) ((ntns_status)(status) < 0x80000000u)
 
 #define NTNS_STATUS_SUCCESS                ((ntns_status)0x00000000u)
+#define NTNS_STATUS_PENDING                ((ntns_status)0x00000103u) /* of ntns_begin_open: a device or a key was met */
 #define NTNS_STATUS_MORE_ENTRIES           ((ntns_status)0x00000105u) /* of a page: other entries follow it */
 #define NTNS_STATUS_OBJECT_NAME_EXISTS     ((ntns_status)0x40000000u) /* with OPENIF: what is there was opened */
 #define NTNS_STATUS_NO_MORE_ENTRIES        ((ntns_status)0x8000001Au)
@@ -140,7 +141,10 @@ enum ntns_type {
  */
 ntns_status ntns_open(ntns *ns);
 
-/* Closes a namespace: all memory that it owns is freed, and `ns` is all zeros. Nothing is reported as deleted. A closed one stays closed. */
+/*
+ * Closes a namespace: all memory that it owns is freed, opens that are pending are given up, and `ns` is all zeros. Nothing is reported
+ * as deleted. A closed one stays closed.
+ */
 void ntns_close(ntns *ns);
 
 /*
@@ -189,7 +193,8 @@ ntns_status ntns_create_object(ntns *ns, uint32_t process, uint32_t root, const 
 
 /*
  * Opens. `handle` is given a handle of the process on success, and else 0. A name that leads through a device or a key is parsed to
- * its end within the call; `root` may then be a handle to one. The statuses, of which the first that holds is returned:
+ * its end within the call, except by ntns_begin_open; `root` may then be a handle to one. The statuses, of which the first that holds
+ * is returned:
  *
  *     INVALID_PARAMETER        `ns` is closed; of an object, a type that is neither NTNS_TYPE_ANY nor the caller's to make
  *     PROCESS_GONE, INVALID_PARAMETER, OBJECT_NAME_INVALID, NAME_TOO_LONG, INVALID_HANDLE, OBJECT_PATH_SYNTAX_BAD,
@@ -216,6 +221,40 @@ ntns_status ntns_open_link(ntns *ns, uint32_t process, uint32_t root, const char
  */
 ntns_status ntns_open_object(ntns *ns, uint32_t process, uint32_t root, const char *name, size_t name_len, uint32_t attributes,
 			     uint32_t type, uint32_t *handle);
+
+/* An open that waits at a device or a key. */
+struct ntns_pending {
+	uint64_t ticket;    /* by which it is ended or cancelled: never 0, and never that of another open */
+	uint64_t id;        /* of the device or key, as of ntns_query_object */
+	uint64_t user_data; /* likewise */
+	uint32_t type;      /* NTNS_TYPE_DEVICE or NTNS_TYPE_KEY */
+};
+
+/*
+ * ntns_open_object in two phases, for a host whose file system or registry has a say: it is asked before a handle is made, without
+ * the lock that the host puts round the namespace, since other calls may be made meanwhile.
+ *
+ * ntns_begin_open: where the name leads through no device and no key, this is the whole open, with its statuses. Else the status is
+ * PENDING, which is a success without a handle: `pending` is given the ticket and the device or key that was met, and `rest` the
+ * part of the name that follows it, of `length` bytes. Where the buffer is too small nothing is written into it, `length` is what
+ * is needed, no open is pending, and the status is BUFFER_TOO_SMALL. With any status but PENDING each field of `pending` is 0, with
+ * any but PENDING and BUFFER_TOO_SMALL `length` is 0, and with any but SUCCESS `handle` is 0.
+ *
+ * The device or key remains as long as an open is pending at it, without its name if it loses that. An open stays pending after its
+ * process has ended, until it is ended or cancelled, or the namespace closed. It counts among the 1,048,576 objects.
+ *
+ * ntns_end_open: the second phase, judged in the state as it is now: `handle` is given a handle of the process to the new file or
+ * key, or to the key that was met. Whether it is given or refused, the open is pending no longer, after NO_MEMORY too; where a file or
+ * key was made and no handle given, its deletion is reported. INVALID_PARAMETER (closed, or no open is pending under this ticket; then
+ * nothing changes), PROCESS_GONE, OBJECT_TYPE_MISMATCH, INVALID_PARAMETER (EXCLUSIVE is asked of an object that isn't, INHERIT of one
+ * that is), ACCESS_DENIED, INSUFFICIENT_RESOURCES, NO_MEMORY.
+ *
+ * ntns_cancel_open: the open is given up, and nothing was opened. It takes no memory. INVALID_PARAMETER, as of ntns_end_open.
+ */
+ntns_status ntns_begin_open(ntns *ns, uint32_t process, uint32_t root, const char *name, size_t name_len, uint32_t attributes,
+			    uint32_t type, uint32_t *handle, struct ntns_pending *pending, char *rest, size_t capacity, size_t *length);
+ntns_status ntns_end_open(ntns *ns, uint64_t ticket, uint32_t *handle);
+ntns_status ntns_cancel_open(ntns *ns, uint64_t ticket);
 
 /*
  * NtClose. What nothing refers to any more is deleted, and what of it is the caller's is reported by ntns_next_deletion.

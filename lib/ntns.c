@@ -49,6 +49,14 @@ ntns_status ntns_open_object(ntns *ns, uint32_t process, uint32_t root, const ch
 	return ntns_open_object_raw(ns, process, root, TEXT(name, name_len), attributes, type, handle);
 }
 
+ntns_status ntns_begin_open(ntns *ns, uint32_t process, uint32_t root, const char *name, size_t name_len, uint32_t attributes,
+			    uint32_t type, uint32_t *handle, struct ntns_pending *pending, char *rest, size_t capacity, size_t *length)
+{
+	char none;
+	return ntns_begin_open_raw(ns, process, root, TEXT(name, name_len), attributes, type, handle, pending, rest ? rest : &none,
+				   rest ? capacity : 0, length);
+}
+
 ntns_status ntns_query_link(ntns *ns, uint32_t process, uint32_t handle, char *buffer, size_t capacity, size_t *length)
 {
 	char none;

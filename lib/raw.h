@@ -21,6 +21,9 @@ ntns_status ntns_open_link_raw(ntns *ns, uint32_t process, uint32_t root, const 
 			       uint32_t *handle);
 ntns_status ntns_open_object_raw(ntns *ns, uint32_t process, uint32_t root, const char *name, size_t name_len, uint32_t attributes,
 				 uint32_t type, uint32_t *handle);
+ntns_status ntns_begin_open_raw(ntns *ns, uint32_t process, uint32_t root, const char *name, size_t name_len, uint32_t attributes,
+				uint32_t type, uint32_t *handle, struct ntns_pending *pending, char *rest, size_t capacity,
+				size_t *length);
 ntns_status ntns_query_link_raw(ntns *ns, uint32_t process, uint32_t handle, char *buffer, size_t capacity, size_t *length);
 ntns_status ntns_query_name_raw(ntns *ns, uint32_t process, uint32_t handle, char *buffer, size_t capacity, size_t *length);
 ntns_status ntns_query_file_raw(ntns *ns, uint32_t process, uint32_t handle, char *buffer, size_t capacity, size_t *length);

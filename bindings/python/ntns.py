@@ -21,7 +21,7 @@ import os
 from ctypes import POINTER, byref, c_bool, c_char_p, c_size_t, c_uint32, c_uint64
 from typing import Iterator, NamedTuple, Optional, Union
 
-__all__ = ["Attribute", "Deletion", "Entry", "Handle", "Namespace", "NtError", "Object", "Process", "Row", "Status", "Type", "VERSION"]
+__all__ = ["Attribute", "Deletion", "Entry", "Handle", "Namespace", "NtError", "Object", "Pending", "Process", "Row", "Status", "Type", "VERSION"]
 
 # ntns.h, written by bindings/generate.py
 
@@ -32,6 +32,7 @@ class Status(enum.IntEnum):
     """NTSTATUS values; those from 0xE0000000 on are this library's own."""
 
     SUCCESS = 0x00000000
+    PENDING = 0x00000103
     MORE_ENTRIES = 0x00000105
     OBJECT_NAME_EXISTS = 0x40000000
     NO_MORE_ENTRIES = 0x8000001A
@@ -113,6 +114,12 @@ class _Ntns(ctypes.Structure):
     _fields_ = [("words", c_size_t * 2)]
 
 
+class _Pending(ctypes.Structure):
+    """An open that waits at a device or a key."""
+
+    _fields_ = [("ticket", c_uint64), ("id", c_uint64), ("user_data", c_uint64), ("type", c_uint32)]
+
+
 class _Row(ctypes.Structure):
     """A row of a listing."""
 
@@ -142,6 +149,9 @@ _CALLS = {
     "ntns_open_directory": (c_uint32, [POINTER(_Ntns), c_uint32, c_uint32, c_char_p, c_size_t, c_uint32, POINTER(c_uint32)]),
     "ntns_open_link": (c_uint32, [POINTER(_Ntns), c_uint32, c_uint32, c_char_p, c_size_t, c_uint32, POINTER(c_uint32)]),
     "ntns_open_object": (c_uint32, [POINTER(_Ntns), c_uint32, c_uint32, c_char_p, c_size_t, c_uint32, c_uint32, POINTER(c_uint32)]),
+    "ntns_begin_open": (c_uint32, [POINTER(_Ntns), c_uint32, c_uint32, c_char_p, c_size_t, c_uint32, c_uint32, POINTER(c_uint32), POINTER(_Pending), c_char_p, c_size_t, POINTER(c_size_t)]),
+    "ntns_end_open": (c_uint32, [POINTER(_Ntns), c_uint64, POINTER(c_uint32)]),
+    "ntns_cancel_open": (c_uint32, [POINTER(_Ntns), c_uint64]),
     "ntns_close_handle": (c_uint32, [POINTER(_Ntns), c_uint32, c_uint32]),
     "ntns_duplicate": (c_uint32, [POINTER(_Ntns), c_uint32, c_uint32, c_uint32, c_bool, POINTER(c_uint32)]),
     "ntns_make_temporary": (c_uint32, [POINTER(_Ntns), c_uint32, c_uint32]),
@@ -348,6 +358,23 @@ class Process:
         """NtOpenEvent, NtOpenFile and so on; with the kind 0, Type.ANY, whatever object the name leads to."""
         return self._handle("open_object", root, *_named(name), attributes, kind)
 
+    def begin_open(
+        self, name: Text, kind: int = 0, attributes: int = 0, root: Optional["Handle"] = None
+    ) -> Union["Handle", "Pending"]:
+        """The same in two phases: a handle where the name leads through no device and no key, and else an open that is pending at one."""
+        start = (self.number, 0 if root is None else self._own(root, "root"), *_named(name), attributes, kind)
+        number, pending, length, room = c_uint32(), _Pending(), c_size_t(), 256
+        while True:
+            buffer = ctypes.create_string_buffer(room)
+            arguments = (byref(number), byref(pending), buffer, room, byref(length))
+            status = self.namespace._status("begin_open", *start, *arguments)
+            if status is Status.SUCCESS:
+                return Handle(self, number.value)
+            if status is Status.PENDING:
+                met = Object(Type(pending.type), pending.user_data, pending.id)
+                return Pending(self, pending.ticket, met, buffer.raw[: length.value].decode())
+            room = length.value
+
     def open_directory(self, name: Text, attributes: int = 0, root: Optional["Handle"] = None) -> "Handle":
         """NtOpenDirectoryObject."""
         return self._handle("open_directory", root, *_named(name), attributes)
@@ -384,6 +411,24 @@ class Process:
         if (handle.process.namespace, handle.process.number) != (self.namespace, self.number):
             raise ValueError(f"the {use} is a handle of another process")
         return handle.value
+
+
+class Pending:
+    """An open that is pending at a device or a key, `object`, with the rest of its name. It is ended or cancelled once; one that is only dropped stays pending."""
+
+    def __init__(self, process: Process, ticket: int, met: Object, rest: str):
+        self.process, self.ticket, self.object, self.rest = process, ticket, met, rest
+
+    def __repr__(self):
+        return f"Pending({self.process.number}, {self.ticket}, {self.rest!r})"
+
+    def end(self) -> "Handle":
+        """Opens the file or the key, or the key that was met. The open is pending no longer, also where this is refused."""
+        return Handle(self.process, self.process.namespace._number("end_open", self.ticket))
+
+    def cancel(self):
+        """Gives the open up."""
+        self.process.namespace._call("cancel_open", self.ticket)
 
 
 class Handle:

@@ -93,6 +93,30 @@ class Objects(Bound):
         self.refused(Status.OBJECT_NAME_NOT_FOUND, self.system.open, r"\E")
 
 
+class TwoPhases(Bound):
+    def test_an_open_that_meets_a_device_is_ended_or_cancelled(self):
+        disk = self.system.create_object(Type.DEVICE, r"\Device\Disk", user_data=7)
+        rest = "\\" + "x" * 300
+        pending = self.system.begin_open(r"\Device\Disk" + rest, Type.FILE)
+        self.assertEqual((pending.object, pending.rest), (disk.query(), rest))
+        file = pending.end()
+        self.assertEqual((file.query().type, file.file_text()), (Type.FILE, rest))
+        self.refused(Status.INVALID_PARAMETER, pending.end)
+        pending = self.system.begin_open("x", Type.EVENT, root=disk)
+        self.refused(Status.OBJECT_TYPE_MISMATCH, pending.end)
+        self.assertEqual(len(list(self.namespace.deletions())), 1)
+        pending = self.system.begin_open("x", root=disk)
+        disk.close()
+        self.assertEqual(list(self.namespace.deletions()), [])
+        pending.cancel()
+        self.assertEqual([it.type for it in self.namespace.deletions()], [Type.DEVICE])
+        self.refused(Status.INVALID_PARAMETER, pending.cancel)
+
+    def test_an_open_that_meets_none_gives_a_handle(self):
+        self.assertEqual(self.system.begin_open("\\").path(), "\\")
+        self.refused(Status.OBJECT_NAME_NOT_FOUND, self.system.begin_open, r"\No")
+
+
 class Processes(Bound):
     def test_a_child_inherits(self):
         handle = self.system.create_object(Type.EVENT, user_data=3, attributes=Attribute.INHERIT)

@@ -1,6 +1,7 @@
 -- That a shared namespace of devices may be lent to threads.
+use denote.Builtin.{unit}
 use denote.RattleType.{RattleType}
-use denote.Param.Send.{IsSync}
+use denote.Param.Send.{IsSync, plain_send}
 use Rattle.std.specs.declared.sync.ledger.Ledger as Ledger
 use Rattle.ob_device.specs.contracts.device.DeviceSet as devices
 use Rattle.ob_device.specs.contracts.device.DeviceKind as kind
@@ -12,18 +13,26 @@ use Rattle.ob_device.proofs.device.DeviceSet.TheSendSync as sets
 use Rattle.ob_device.proofs.device.DeviceKind.TheSendSync as kinds
 use Rattle.ob_device.proofs.device.DeviceFace.TheSendSync as faces
 use Rattle.ob_device.proofs.device.DeviceInner.TheSendSync as inners
-use Rattle.ob_slab_table.specs.contracts.slab_table.SlabTable as table
-use Rattle.ob_slab_table.specs.contracts.slab_table.SlabTableHandleTable.TheImpl as handles
-use Rattle.ob_slab_table.proofs.slab_table.SlabTable.TheSendSync as tables
+use Rattle.ob_handles.specs.contracts.slab_table.SlabTable as table
+use Rattle.ob_handles.specs.contracts.slab_table.SlabTableHandleTable.TheImpl as handles
+use Rattle.ob_handles.proofs.slab_table.SlabTable.TheSendSync as tables
+use Rattle.std.specs.Prelude.{◌≡◌}
+use Rattle.ob_base.specs.declared.Fault.TheVariants.{Refused}
+use Rattle.ob_base.specs.declared.status.Status.TheVariants.{InvalidParameter}
+use Rattle.ob_shared.specs.declared.publishing.Publishing as Publishing
 use Rattle.ob_shared.specs.contracts.shared.Shared as shared
 use Rattle.ob_shared.proofs.Lent.{shared_sync}
+
+-- nothing is published
+abbrev nothing : Publishing.Ghosts unit.Denot (devices.the_row).Denot unit.Denot (kind.the_row).Denot (face.the_row).Denot (inner.the_row).Denot
+nothing = record { keeps = λ publisher h. Unit {0}; shows = λ publisher published h. ⊥; faults = λ fault. fault ≡ Refused InvalidParameter }
 
 module _ (L : RattleType) (l : Ledger.Ghosts L.Denot) where
   -- the namespace, as the logic has it
   abbrev pub space : RattleType
-  space = shared.the_row devices.the_row table.the_row L kind.the_row face.the_row inner.the_row set.ghosts equal.ghosts handles.ghosts l
+  space = shared.the_row devices.the_row table.the_row L unit kind.the_row face.the_row inner.the_row unit set.ghosts equal.ghosts handles.ghosts l nothing
 
   pub space_sync : IsSync space
   space_sync =
-      shared_sync devices.the_row table.the_row L kind.the_row face.the_row inner.the_row set.ghosts equal.ghosts handles.ghosts l
-      sets.the_send tables.the_send kinds.the_send kinds.the_sync faces.the_send inners.the_send faces.the_sync
+      shared_sync devices.the_row table.the_row L unit kind.the_row face.the_row inner.the_row unit set.ghosts equal.ghosts handles.ghosts l nothing
+      sets.the_send tables.the_send (plain_send _ _ _ _ _) kinds.the_send kinds.the_sync faces.the_send inners.the_send faces.the_sync

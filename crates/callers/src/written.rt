@@ -1,7 +1,7 @@
 //! The output: marks, numbers, and the lines of journals.
 
 use ob_device::{DeviceKind, DeviceSet};
-use ob_journal::{Segment, write_header, write_line};
+use ob_entries::{Segment, write_header, write_line};
 use ob_shared::Journal;
 use std::alloc::{AllocError, Global};
 use std::io::Write;

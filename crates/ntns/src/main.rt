@@ -2,8 +2,7 @@
 //! that the words name, and ends with the status of how that ended.
 #![tactic(auto)]
 
-use ob_tasks::{refuse, serve, starve};
-use ob_words::unreadable;
+use ob_shell::{refuse, serve, starve, unreadable};
 use std::io::{BufReader, ErrorKind};
 use std::process::ExitCode;
 use std::{env, fs};

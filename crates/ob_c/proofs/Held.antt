@@ -11,7 +11,7 @@ use Rattle.ob_model.specs.State.{State, body_of, held_of, object_of}
 use Rattle.ob_model.proofs.SoundPaths.{find_of, of_some}
 
 module _ {K T F I : Type 0} (s : State K T F I) (sound : IsSound s) where
-  has_body : (o : ℕ) → Stands s o → IsSome (body_of s o)
+  pub has_body : (o : ℕ) → Stands s o → IsSome (body_of s o)
   has_body o stands = go (object_of s o) stands
     where
       go : (x : Option (Object F I)) → is_some x ≡ true → IsSome (option_map (λ y. y.body) x)

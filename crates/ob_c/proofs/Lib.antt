@@ -2,3 +2,4 @@ pub mod ToldLemmas
 pub mod PagesLemmas
 pub mod RowsLemmas
 pub mod Held
+pub mod PendingLemmas

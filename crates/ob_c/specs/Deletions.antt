@@ -4,7 +4,7 @@
 use Rattle.std.specs.Prelude.{◌≡◌, ℕ, if◌then◌else◌, Option, None, Some}
 use Rattle.ob_base.specs.Status.{code_of}
 use Rattle.ob_base.specs.declared.status.Status.TheVariants.{Success, InvalidParameter, NoMoreEntries}
-use Rattle.ob_drains.specs.Unnoticed.{with_change}
+use Rattle.ob_types.specs.Unnoticed.{with_change}
 use Rattle.ob_host.specs.Deletions.{next_deletion, behind_next}
 use Rattle.ob_host.specs.declared.deletion.HostDeletion.{HostDeletion}
 use Rattle.ob_c_state.specs.Machine.{Space}

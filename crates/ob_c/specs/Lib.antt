@@ -1,8 +1,9 @@
 pub mod Referents
 pub mod Told
 pub mod Objects
-pub mod Texts
 pub mod Pages
 pub mod Deletions
 pub mod Rows
 pub mod Handles
+pub mod Pending
+pub mod Texts

@@ -8,7 +8,9 @@ use Rattle.ob_model.specs.declared.reply.Reply.{Reply}
 use Rattle.ob_host.specs.declared.kind.Kind.{Kind}
 use Rattle.ob_c_state.specs.Machine.{Space}
 use Rattle.ob_c_state.specs.Calls.{HasBytes, Ends, Calls, Does, DoesOfAnyType, EndsMade, CallsMade}
+use Rattle.ob_c_state.specs.Pending.{BeginsOpen, BeginsMade}
 use Rattle.ob_numbers.specs.Types.{type_of_kind}
+use Rattle.ob_runner.specs.declared.begun.Begun.{Begun}
 
 module _ {E : Type 0} (p : ℕ) where
   -- what was taken out of a caller's struct tells whether it was open
@@ -33,6 +35,12 @@ module _ {E : Type 0} (p : ℕ) where
   pub does_made : (made : Result (Command Kind) E) (command : Command Kind) → HasBytes command → IfOk made (λ c. c ≡ command) → (old new : Option Space) (ended : Result Reply Status)
       → (Tells : Result Reply Status → Type 0) → CallsMade p made old ended new → Tells ended → Does p command old new Tells
   does_made made command bytes is old new ended Tells calls tells = (ended, calls_made made command bytes is old new ended calls, tells)
+
+  -- an open that was begun of bytes of the caller's
+  pub begins_made : (made : Result (Command Kind) E) (command : Command Kind) → HasBytes command → IfOk made (λ c. c ≡ command) → (s t : Space) (begun : Result Begun Status)
+      → BeginsMade p made s begun t → BeginsOpen p command s begun t
+  begins_made (Ok c) command bytes is s t begun begins = subst (λ (d : Command Kind). BeginsOpen p d s begun t) is begins
+  begins_made (Err e) command bytes is s t begun begins = subst (λ (d : Result Begun Status). BeginsOpen p command s d t) (sym begins.0) (refl, inr (bytes, begins.1))
 
 calls_ok : (E : Type 0) (p : ℕ) (command : Command Kind) (old new : Option Space) (ended : Result Reply Status) → CallsMade {E = E} p (Ok command) old ended new → Calls p command old ended new
 calls_ok E p command None new ended calls = calls

@@ -1,3 +1,4 @@
 pub mod Machine
 pub mod Caller
 pub mod Calls
+pub mod Pending

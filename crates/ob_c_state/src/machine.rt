@@ -1,34 +1,48 @@
 //! The machine of a caller's struct.
 
-ghost use Rattle.std.specs.Prelude.{◌≡◌, IfOk, IfSome, IfNone};
+ghost use Rattle.std.specs.Prelude.{◌≡◌, IfOk, IfSome, IfNone, IsSome};
 ghost use Rattle.std.specs.Option.{option_map};
 ghost use Rattle.ob_core.specs.Referent.{body_lent, referent_at};
-ghost use Rattle.ob_drains.specs.Unnoticed.{with_change};
+ghost use Rattle.ob_types.specs.Unnoticed.{with_change};
 ghost use Rattle.ob_host.specs.Deletions.{behind_next, next_deletion, unused};
 ghost use Rattle.ob_model.specs.Opening.{opening};
+ghost use Rattle.ob_model.specs.PendingOpens.{pending_of};
+ghost use Rattle.ob_runner.specs.Begun.{IfWaits};
 ghost use Rattle.ob_c_state.specs.Calls.{Ends, EndsMade};
+ghost use Rattle.ob_c_state.specs.Pending.{BeginsMade, BeginsOpen, Cancels, EndsPending};
 
 use ob_base::{Handle, ObjId, Proc, Status};
 use ob_core::{Command, Core, Referent, Reply, SlabTable};
 use ob_host::{HostDeletion, HostInner, HostObject, HostSet, Kind};
-use ob_runner::run_command;
+use ob_runner::{Begun, Waits, begin_open, drop_open, end_open, run_command};
 use std::alloc::{AllocError, Global};
 use std::marker::Model;
 
-/// The namespace over the set of a caller's own objects.
+/// The namespace over the set of a caller's own objects, and the parses that its pending opens wait for.
 ///
-/// A contract sees the state of the abstract machine. (this profile)
-#[derive(Drop)]
+/// A contract sees the state of the abstract machine. Of every value the parses that are kept are those of the opens that
+/// are pending in that state, under their tickets. (this profile)
 pub struct HostCore {
     core: Core<HostSet, SlabTable>,
+    waits: Waits<HostSet>,
 }
 
 impl Model for HostCore {
-    ghost use Rattle.ob_c_state.specs.Machine.{Space};
+    ghost use Rattle.ob_c_state.specs.Machine.{KeepsParses, Space};
 
     ghost Value = { Space };
 
     ghost view = { λ a. a.core };
+
+    ghost invariant = { λ a. KeepsParses a.core a.waits };
+}
+
+/// The parses of pending opens are dropped too.
+impl Drop for HostCore {
+    fn drop(self) {
+        let HostCore { core: _core, waits } = self;
+        waits.let_go();
+    }
 }
 
 impl HostCore {
@@ -37,7 +51,10 @@ impl HostCore {
         ensures { IfOk result (λ core. core ≡ opening unused) }
     {
         match Core::new(alloc, HostSet::new()) {
-            Ok(core) => Ok(HostCore { core }),
+            Ok(core) => Ok(HostCore {
+                core,
+                waits: Waits::new(alloc),
+            }),
             Err(_) => Err(AllocError),
         }
     }
@@ -70,10 +87,90 @@ impl HostCore {
     ) -> Result<Reply, Status>
         ensures { Ends process command.now self.old result self.new }
     {
+        self.core.state_is_sound();
         let Ok(reply) = run_command(&mut self.core, alloc, Proc(process), command) else {
             return Err(Status::NoMemory);
         };
         Ok(reply)
+    }
+
+    /// Starts a command of a process, and keeps its parse if it is an open that waits for one; if it could not be made
+    /// because memory ran out, nothing is done. The only error is `NoMemory`: before the first step, and then nothing has
+    /// changed, or after steps that abandon the open.
+    ///
+    /// Source: Windows Internals, Object Manager (parse methods); that a parse is run between two steps is this profile.
+    pub fn begin(
+        &mut self,
+        process: u32,
+        made: Result<Command<Kind>, AllocError>,
+    ) -> Result<Begun, Status>
+        ensures begun { BeginsMade process made self.old result self.new }
+        ensures pending { IfOk result (λ begun. IfWaits begun (λ ticket.
+            IsSome (pending_of self.new ticket))) }
+    {
+        match made {
+            Err(_) => Err(Status::NoMemory),
+            Ok(command) => self.begin_lent(process, &command),
+        }
+    }
+
+    // Starts a command of a process, and keeps its parse if it is an open that waits for one.
+    fn begin_lent(&mut self, process: u32, command: &Command<Kind>) -> Result<Begun, Status>
+        ensures begun { BeginsOpen process command.now self.old result self.new }
+        ensures pending { IfOk result (λ begun. IfWaits begun (λ ticket.
+            IsSome (pending_of self.new ticket))) }
+    {
+        self.core.state_is_sound();
+        match begin_open(&mut self.core, &mut self.waits, Proc(process), command) {
+            Ok(begun) => Ok(begun),
+            Err(_) => Err(Status::NoMemory),
+        }
+    }
+
+    /// Runs the parse of a pending open, and resumes the open with it, to its reply. The errors are `InvalidParameter`, if no
+    /// open is pending under the ticket, and then nothing changes; and `NoMemory`, and then the open is abandoned. No open
+    /// waits for a second parse, since no object of the caller's answers with another name.
+    ///
+    /// Source: Windows Internals, Object Manager (parse methods); that a parse is run between two steps is this profile.
+    pub fn end(&mut self, alloc: Global, ticket: u64) -> Result<Reply, Status>
+        ensures { EndsPending ticket self.old result self.new }
+    {
+        let Some(_) = self.core.pinned(ticket) else {
+            return Err(Status::InvalidParameter);
+        };
+        self.core.state_is_sound();
+        match end_open(&mut self.core, &mut self.waits, alloc, ticket) {
+            Ok(Begun::Replied(reply)) => Ok(reply),
+            Ok(Begun::Waits(_)) => unreachable!(),
+            Err(_) => Err(Status::NoMemory),
+        }
+    }
+
+    /// Abandons a pending open, without a run of its parse: `Success`, or `InvalidParameter` if no open is pending under the
+    /// ticket, and then nothing changes. It takes no memory.
+    ///
+    /// Source: Windows Internals, Object Manager (parse methods); that an open is given up by its ticket is this profile.
+    pub fn cancel(&mut self, ticket: u64) -> Status
+        ensures { Cancels ticket self.old result self.new }
+    {
+        let Some(_) = self.core.pinned(ticket) else {
+            return Status::InvalidParameter;
+        };
+        self.core.state_is_sound();
+        drop_open(&mut self.core, &mut self.waits, ticket);
+        Status::Success
+    }
+
+    /// The part of a pending open's name that follows the object at which it is pending; `None` exactly if no open is pending
+    /// under the ticket.
+    ///
+    /// Source: Windows Internals, Object Manager (parse methods: the remaining name).
+    pub fn rest(&self, ticket: u64) -> Option<&[u8]>
+        ensures { option_map (λ rest. rest.now) result
+            ≡ option_map (λ pending. pending.rest) (pending_of self.now ticket) }
+    {
+        let parse = self.waits.parse(ticket)?;
+        Some(parse.rest())
     }
 
     /// The object of a process's handle, whose low two bits are ignored: its id, and what it is. `None` exactly if the

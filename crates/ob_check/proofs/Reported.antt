@@ -5,7 +5,7 @@ use Rattle.ob_lines.specs.declared.misfit.Misfit.{Misfit}
 use Rattle.ob_lines.specs.Lines.{lines_of}
 use Rattle.ob_output.specs.Gathering.{Gathers}
 use Rattle.ob_output.proofs.Gathered.{gathers_front, gathers_more, gathers_nothing, gathers_out, gathers_out_front}
-use Rattle.ob_streams.specs.Writing.{AppendsFront}
+use Rattle.ob_output.specs.Writing.{AppendsFront}
 use Rattle.ob_worker_lines.specs.declared.phase.Phase.{Phase}
 use Rattle.ob_worker_lines.specs.declared.phase.Phase.TheVariants.{Before}
 use Rattle.ob_worker_lines.specs.Cuts.{Lines}

@@ -6,13 +6,13 @@ use Rattle.std.specs.Fmt.{decimal}
 use Rattle.std.specs.Io.KnownBytes.{Appends}
 use Rattle.ob_lines.specs.declared.misfit.Misfit.{Misfit}
 use Rattle.ob_lines.specs.Lines.{lines_of}
-use Rattle.ob_streams.specs.Fault.{is_unwritten}
-use Rattle.ob_streams.specs.Reading.{StopsLong}
-use Rattle.ob_streams.specs.Writing.{AppendsFront}
-use Rattle.ob_streams.specs.declared.fault.ShellFault.{ShellFault}
-use Rattle.ob_streams.specs.declared.fault.ShellFault.TheVariants.{Mismatch, TooLong, Write}
-use Rattle.ob_streams.specs.declared.reading.TheConstants.{SCRIPT_LIMIT}
-use Rattle.ob_streams.specs.declared.writing.Unwritten.{Unwritten}
+use Rattle.ob_output.specs.Fault.{is_unwritten}
+use Rattle.ob_output.specs.Reading.{StopsLong}
+use Rattle.ob_output.specs.Writing.{AppendsFront}
+use Rattle.ob_output.specs.declared.fault.ShellFault.{ShellFault}
+use Rattle.ob_output.specs.declared.fault.ShellFault.TheVariants.{Mismatch, TooLong, Write}
+use Rattle.ob_output.specs.declared.reading.TheConstants.{SCRIPT_LIMIT}
+use Rattle.ob_output.specs.declared.writing.Unwritten.{Unwritten}
 use Rattle.ob_worker_lines.specs.declared.phase.Phase.{Phase}
 use Rattle.ob_worker_lines.specs.declared.phase.Phase.TheVariants.{Before}
 use Rattle.ob_worker_lines.specs.Cuts.{CanBeCut, Lines}

@@ -4,14 +4,16 @@ ghost use Rattle.std.specs.Prelude.{◌≡◌, ◌≢◌, ◌⊎◌, ◌+◌, �
 ghost use Rattle.ob_check.specs.Report.{ReportsScript, WritesReport, WritesReportPart, fault_line};
 ghost use Rattle.ob_lines.specs.Misfits.{IsFew};
 ghost use Rattle.ob_output.specs.Gathering.{Gathers};
-ghost use Rattle.ob_streams.specs.Fault.{is_unwritten};
-ghost use Rattle.ob_streams.specs.Reading.{StopsLong, StopsReading, TakesAtMost};
-ghost use Rattle.ob_streams.specs.Writing.{AppendsFront};
+ghost use Rattle.ob_output.specs.Fault.{is_unwritten};
+ghost use Rattle.ob_output.specs.Reading.{StopsLong, StopsReading, TakesAtMost};
+ghost use Rattle.ob_output.specs.Writing.{AppendsFront};
 ghost use Rattle.ob_worker_lines.specs.Phases.{expected_there};
 
 use ob_lines::{Expected, Misfit, first_line};
-use ob_output::{LINE_ROOM, make_room, push_expected, push_number, push_text};
-use ob_streams::{SCRIPT_LIMIT, ShellFault, Unwritten, read_script, write_out};
+use ob_output::{
+    LINE_ROOM, SCRIPT_LIMIT, ShellFault, Unwritten, make_room, push_expected, push_number,
+    push_text, read_script, write_out,
+};
 use ob_worker_lines::{Phase, judge_line};
 use std::alloc::Global;
 use std::io::{Read, Write};

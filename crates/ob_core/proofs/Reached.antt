@@ -1,8 +1,8 @@
 -- A state behind a step is one that a run leads to, and so is one where the last handle has another value.
 use Rattle.std.proofs.Common.{◌≡◌, ◌∙◌, ℕ, ◌+◌, Bool, true, false, cond, List, [], ◌∷◌, ◌++◌, find, None, Some, refl, ap, sym, subst}
 use Rattle.std.specs.Prelude.{Result, IfOk, OnErr}
-use Rattle.ob_choices.specs.Choice.{revalued, answer_under}
-use Rattle.ob_choices.proofs.ChosenSteps.{step_last, step_under}
+use Rattle.ob_model.specs.Choice.{revalued, answer_under}
+use Rattle.ob_model.proofs.ChosenSteps.{step_last, step_under}
 use Rattle.ob_model.specs.Closing.{is_handle}
 use Rattle.ob_model.specs.declared.reply.Answer.{Answer}
 use Rattle.ob_model.specs.declared.reply.Event.{Event}

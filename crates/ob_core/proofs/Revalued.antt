@@ -16,8 +16,8 @@ use Rattle.ob_model.specs.Sound.{IsSound, Stands}
 use Rattle.ob_model.specs.State.{State, root_id, is_live}
 use Rattle.ob_model.proofs.Finds.{find_none, not_found, filter_all}
 use Rattle.ob_model.proofs.SoundPaths.{find_of, of_some}
-use Rattle.ob_choices.specs.Choice.{with_last_value, revalued}
-use Rattle.ob_choices.proofs.Revalued.{appended, any_revalued}
+use Rattle.ob_model.specs.Choice.{with_last_value, revalued}
+use Rattle.ob_model.proofs.Revalued.{appended, any_revalued}
 use Rattle.ob_processes.specs.ByOrder.{OrdersRise}
 use Rattle.ob_processes.specs.Running.{Running}
 use Rattle.ob_space.specs.Namespace.{Parts, state_of}

@@ -5,8 +5,8 @@ use Rattle.ob_model.specs.Procedures.{Procedures}
 use Rattle.ob_model.specs.State.{State}
 use Rattle.ob_space.specs.Namespace.{Parts, state_of}
 use Rattle.ob_space.specs.Orderly.{IsBetweenSteps}
-use Rattle.ob_drains.specs.Unnoticed.{IsUnnoticed, with_change}
-use Rattle.ob_drains.proofs.Runs.{runs_stay}
+use Rattle.ob_types.specs.Unnoticed.{IsUnnoticed, with_change}
+use Rattle.ob_types.proofs.UnnoticedRuns.{runs_stay}
 use Rattle.ob_core.specs.Reached.{IsReached}
 
 -- what holds of a core

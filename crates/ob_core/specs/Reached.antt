@@ -2,7 +2,7 @@
 --
 -- Source: this profile.
 use Rattle.std.specs.Prelude.{◌≡◌, ℕ, List, Some}
-use Rattle.ob_choices.specs.Choice.{receiver_of}
+use Rattle.ob_model.specs.Choice.{receiver_of}
 use Rattle.ob_model.specs.Alike.{handle_given}
 use Rattle.ob_model.specs.declared.reply.Answer.{Answer}
 use Rattle.ob_model.specs.declared.reply.Event.{Event}

@@ -7,7 +7,7 @@
 //!
 //! The parts of a command and of its reply are handed on: [`Command`], [`Place`] and [`Wanted`],
 //! [`Reply`] and [`Given`], and the [`Bytes`], [`Handles`] and [`Entries`] in them, of which each [`Listed`] has a [`TypeName`]; and so are handle tables, [`HandleTable`],
-//! [`SlabTable`] and [`OpenTable`], the [`Cache`] by which names are looked up, and the parses that an open may wait for, [`Parsing`] and [`Parsed`], with [`Brought`] for either. So a caller names this crate and a set of types and nothing else for them.
+//! [`SlabTable`] and [`OpenTable`], the [`Cache`] by which names are looked up, and the parses that an open may wait for, [`Parsing`] and [`Parsed`], with [`Pending`] for either. So a caller names this crate and a set of types and nothing else for them.
 #![tactic(auto)]
 
 mod namespace;
@@ -15,13 +15,12 @@ mod referent;
 mod steps;
 
 pub use namespace::Core;
-pub use ob_handles::{HandleTable, OpenTable};
+pub use ob_handles::{HandleTable, OpenTable, SlabTable};
 pub use ob_lookup::{Cache, RemovedName};
 pub use ob_model::{
     Bytes, Command, Entries, Given, Handles, Listed, Place, Reply, TypeName, Wanted,
 };
 pub use ob_objects::Named;
 pub use ob_opens::Started;
-pub use ob_slab_table::SlabTable;
-pub use ob_types::{Brought, Parsed, Parsing};
+pub use ob_types::{Parsed, Parsing, Pending};
 pub use referent::Referent;

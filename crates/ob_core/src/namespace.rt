@@ -10,8 +10,8 @@ ghost use Rattle.ob_base.specs.Handle.{key_of};
 ghost use Rattle.ob_model.specs.State.{body_of, handle_count, held_of, table_size};
 ghost use Rattle.ob_model.specs.Grants.{IsFreeValue, is_exclusive};
 ghost use Rattle.ob_model.specs.Settle.{is_permanent};
-ghost use Rattle.ob_choices.specs.Choice.{revalued};
-ghost use Rattle.ob_drains.specs.Unnoticed.{with_change};
+ghost use Rattle.ob_model.specs.Choice.{revalued};
+ghost use Rattle.ob_types.specs.Unnoticed.{with_change};
 ghost use Rattle.ob_core.specs.Listed.{handle_after, process_after};
 ghost use Rattle.ob_core.specs.Reached.{IsJustGiven, IsReached};
 ghost use Rattle.ob_core.specs.Referent.{body_lent, referent_at};
@@ -25,13 +25,13 @@ ghost use Rattle.ob_opens.specs.Refusing.{IsBroughtRefused};
 ghost use Rattle.ob_model.specs.Refusals.{answers};
 ghost use Rattle.ob_types.specs.Parse.{asked_of};
 ghost use Rattle.ob_model.specs.PendingOpens.{pending_of};
-ghost use Rattle.ob_types.specs.Brought.{run_of, run_of_end, brought as end_of};
+ghost use Rattle.ob_processes.specs.Pending.{pins_of};
+ghost use Rattle.ob_types.specs.Pending.{run_of, run_of_end, brought as end_of};
 ghost use Rattle.ob_opens.specs.Waiting.{answer_of, IfParsing, IsParseOf, IsAwaited, IsNotTaken, opens_nothing};
 
 use crate::referent::{Referent, referent_of};
 use crate::steps::step_for;
 use ob_base::{Fault, Handle, ObjId, Proc};
-use ob_drains::{Drains, what_is_taken_is_unnoticed};
 use ob_handles::HandleTable;
 use ob_lookup::{Cache, RemovedName};
 use ob_model::{Command, Held};
@@ -39,7 +39,7 @@ use ob_objects::Named;
 use ob_opens::{Started, abandon, is_awaited, resume};
 use ob_processes::{PendingOpens, Processes};
 use ob_space::{Space, held_of, opening_store};
-use ob_types::{Brought, Parsed, TypeSet};
+use ob_types::{Drains, Parsed, Pending, TypeSet, what_is_taken_is_unnoticed};
 use std::alloc::{AllocError, Global};
 use std::marker::Model;
 
@@ -173,7 +173,7 @@ impl<T: TypeSet, H: HandleTable> Core<T, H> {
     ///
     /// Source: Windows Internals, Object Manager (parse methods; object retention); that an open is given up by its
     /// ticket is this profile.
-    pub fn abandon(&mut self, brought: Brought<T>) -> bool
+    pub fn abandon(&mut self, brought: Pending<T>) -> bool
         ensures exact { IsTrue result
             ↔ IsAwaited T.procedures self.old (asked_of (end_of brought)) }
         ensures step { IsTrue result
@@ -185,7 +185,7 @@ impl<T: TypeSet, H: HandleTable> Core<T, H> {
     }
 
     /// Whether an open waits for this parse, as `abandon` says: else it is a stranger's. Source: this profile.
-    pub fn awaits(&self, brought: &Brought<T>) -> bool
+    pub fn awaits(&self, brought: &Pending<T>) -> bool
         ensures { IsTrue result ↔ IsAwaited T.procedures self.now (asked_of (end_of brought.now)) }
     {
         is_awaited(&self.space, brought)
@@ -315,6 +315,25 @@ impl<T: TypeSet, H: HandleTable> Core<T, H> {
         ensures { result ≡ handle_count self.now object }
     {
         self.space.processes.count_of(object)
+    }
+
+    /// How many opens are pending at an object: 0 where it isn't there. Takes no memory.
+    ///
+    /// Source: Windows Internals, Object Manager (object retention: what is referred to stays).
+    pub fn pins_of(&self, object: ObjId) -> usize
+        ensures { result ≡ pins_of self.now.pending object }
+    {
+        self.space.pending.pins_of(object)
+    }
+
+    /// The directory of the device map of a process; None exactly where the process isn't live or has none. Takes no memory.
+    ///
+    /// Source: Windows Internals, Object Manager (session namespace, device maps).
+    pub fn map_of(&self, process: Proc) -> Option<ObjId>
+        ensures { result ≡ option_and_then (λ x. x.map)
+            (find (λ x. x.number == process) self.now.processes) }
+    {
+        self.space.processes.view(process).local
     }
 
     /// Whether an object is there and is permanent: its name stays when its last handle is closed. Takes no memory.

@@ -8,7 +8,7 @@ use ob_base::{Fault, Proc};
 use ob_core::{HandleTable, OpenTable, SlabTable};
 use ob_device::DeviceKind;
 use ob_plain::{PlainKind, Recorder, Refusing};
-use ob_stage::{End, Listing, Stage, number_of, sides_of, word_of};
+use ob_stage::{Listing, Stage, StageEnd, number_of, sides_of, word_of};
 use ob_standard::{Standard, StandardKind};
 use ob_types::TypeSet;
 use std::alloc::Global;
@@ -45,11 +45,11 @@ fn make<T: Listing, H: HandleTable>(stage: &mut Stage<T, H>, other: &mut Stage<T
 /// Whether the last step was answered as a line says.
 fn is_told<T: Listing, H: HandleTable>(stage: &Stage<T, H>, told: &str) -> bool {
     match (stage.end(), word_of(told, 0)) {
-        (End::Done(reply), _) => is_reply(reply, told),
-        (End::Waits, "waits") => stage.is_waited_for(word_of(told, 1), word_of(told, 2)),
-        (End::Back(is_stranger), "stranger") => *is_stranger,
-        (End::GivenUp(did_wait), "given") => *did_wait,
-        (End::GivenUp(did_wait), "kept") => !*did_wait,
+        (StageEnd::Done(reply), _) => is_reply(reply, told),
+        (StageEnd::Waits, "waits") => stage.is_waited_for(word_of(told, 1), word_of(told, 2)),
+        (StageEnd::Back(is_stranger), "stranger") => *is_stranger,
+        (StageEnd::GivenUp(did_wait), "given") => *did_wait,
+        (StageEnd::GivenUp(did_wait), "kept") => !*did_wait,
         _ => false,
     }
 }

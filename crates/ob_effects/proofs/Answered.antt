@@ -1,4 +1,4 @@
--- A request that is answered, and the words after it.
+-- A request that is answered, and the variables after it.
 use Rattle.std.proofs.Common.{◌≡◌, ℕ, ◌==◌, ◌&&◌, Bool, true, false, cond, List, [], ◌∷◌, Option, Some, None, refl, sym, ap, ◌∙◌, subst, inl, inr}
 use Rattle.std.specs.Borrow.{Bor}
 use Rattle.std.specs.List.{find, filter}
@@ -33,23 +33,23 @@ use Rattle.ob_lines.specs.declared.request.Request.TheVariants as request
 use Rattle.ob_lines.specs.Changes.{change_of, change_seen}
 use Rattle.ob_lines.specs.Script.{found_seen}
 use Rattle.ob_lines.specs.Grammar.{form_seen, request_seen}
-use Rattle.ob_requests.specs.Words.{Words, handed_on, is_among, with_process, with_words}
+use Rattle.ob_requests.specs.Variables.{Variables, handed_on, is_among, with_process, with_variables}
 use Rattle.ob_requests.specs.Tables.{IsKept}
 use Rattle.ob_requests.specs.Commands.{applied, changed, given_process, with_child}
 use Rattle.ob_standard_core.specs.Machine.{Space}
 use Rattle.ob_effects.specs.Effects.{IsAsked, IsAnswered, IsUnanswered}
 
--- a request is asked with words that are the same
-pub asked_with : (r : Request (List ℕ)) (p : ℕ) (words mid : Words) (s s' : Space) (reply : Reply) → mid ≡ words → IsAsked r p mid s reply s' → IsAsked r p words s reply s'
-asked_with r p words mid s s' reply same is = let P : Words → Type 0 = λ x. IsAsked r p x s reply s' in subst P same is
+-- a request is asked with variables that are the same
+pub asked_with : (r : Request (List ℕ)) (p : ℕ) (variables mid : Variables) (s s' : Space) (reply : Reply) → mid ≡ variables → IsAsked r p mid s reply s' → IsAsked r p variables s reply s'
+asked_with r p variables mid s s' reply same is = let P : Variables → Type 0 = λ x. IsAsked r p x s reply s' in subst P same is
 
-pub unanswered_with : (r : Request (List ℕ)) (p : ℕ) (words mid : Words) (s s' : Space) → mid ≡ words → IsUnanswered r p mid s s' → IsUnanswered r p words s s'
-unanswered_with r p words mid s s' same is = let P : Words → Type 0 = λ x. IsUnanswered r p x s s' in subst P same is
+pub unanswered_with : (r : Request (List ℕ)) (p : ℕ) (variables mid : Variables) (s s' : Space) → mid ≡ variables → IsUnanswered r p mid s s' → IsUnanswered r p variables s s'
+unanswered_with r p variables mid s s' same is = let P : Variables → Type 0 = λ x. IsUnanswered r p x s s' in subst P same is
 
--- and leaves the words that its change says
-pub answered : (r : Request (List ℕ)) (p : ℕ) (words words' : Words) (s s' : Space) (reply : Reply) (ch : Change (List ℕ)) → ch ≡ change_of r → IsAsked r p words s reply s'
-    → words' ≡ changed ch p reply words → IsAnswered r p words s reply words' s'
-answered r p words words' s s' reply ch is asked left = (asked, left ∙ ap (λ x. changed x p reply words) is)
+-- and leaves the variables that its change says
+pub answered : (r : Request (List ℕ)) (p : ℕ) (variables variables' : Variables) (s s' : Space) (reply : Reply) (ch : Change (List ℕ)) → ch ≡ change_of r → IsAsked r p variables s reply s'
+    → variables' ≡ changed ch p reply variables → IsAnswered r p variables s reply variables' s'
+answered r p variables variables' s s' reply ch is asked left = (asked, left ∙ ap (λ x. changed x p reply variables) is)
 
 -- the form that asks for something, as it is seen
 pub asks_seen : (found : Option (Form (Bor (List ℕ)))) (form : Form (Bor (List ℕ))) (process : Bor (List ℕ)) (r : Request (Bor (List ℕ)))
@@ -57,32 +57,32 @@ pub asks_seen : (found : Option (Form (Bor (List ℕ)))) (form : Form (Bor (List
 asks_seen found form process r e f =
     let P : Form (Bor (List ℕ)) → Type 0 = λ x. found_seen found ≡ Some (form_seen x) in subst P f (ap found_seen e)
 
--- a request that sets a process word is one for a child
-pub begins : (r : Request (List ℕ)) (word : List ℕ) (inherit : Bool) → change.SetsProcess word inherit ≡ change_of r → r ≡ request.NewProcess inherit word
-begins (request.CreateDirectory place attrs w) word inherit e = cc
-begins (request.CreateShadowed shadow place attrs w) word inherit e = cc
-begins (request.CreateLink place attrs target w) word inherit e = cc
-begins (request.CreateObject kind place attrs args w) word inherit e = cc
-begins (request.OpenDirectory name attrs w) word inherit e = cc
-begins (request.OpenLink name attrs w) word inherit e = cc
-begins (request.OpenObject want name attrs w) word inherit e = cc
-begins (request.Close handle) word inherit e = cc
-begins (request.QueryLink handle) word inherit e = cc
-begins (request.QueryName handle) word inherit e = cc
-begins (request.QueryDirectory handle room mode) word inherit e = cc
-begins (request.Duplicate handle to own w) word inherit e = cc
-begins (request.MakeTemporary handle) word inherit e = cc
-begins (request.MakePermanent handle) word inherit e = cc
-begins (request.SetDeviceMap handle) word inherit e = cc
-begins (request.NewProcess own child) word inherit e = cc
-begins request.ExitProcess word inherit e = cc
+-- a request that sets a process variable is one for a child
+pub begins : (r : Request (List ℕ)) (variable : List ℕ) (inherit : Bool) → change.SetsProcess variable inherit ≡ change_of r → r ≡ request.NewProcess inherit variable
+begins (request.CreateDirectory place attrs w) variable inherit e = cc
+begins (request.CreateShadowed shadow place attrs w) variable inherit e = cc
+begins (request.CreateLink place attrs target w) variable inherit e = cc
+begins (request.CreateObject kind place attrs args w) variable inherit e = cc
+begins (request.OpenDirectory name attrs w) variable inherit e = cc
+begins (request.OpenLink name attrs w) variable inherit e = cc
+begins (request.OpenObject want name attrs w) variable inherit e = cc
+begins (request.Close handle) variable inherit e = cc
+begins (request.QueryLink handle) variable inherit e = cc
+begins (request.QueryName handle) variable inherit e = cc
+begins (request.QueryDirectory handle room mode) variable inherit e = cc
+begins (request.Duplicate handle to own w) variable inherit e = cc
+begins (request.MakeTemporary handle) variable inherit e = cc
+begins (request.MakePermanent handle) variable inherit e = cc
+begins (request.SetDeviceMap handle) variable inherit e = cc
+begins (request.NewProcess own child) variable inherit e = cc
+begins request.ExitProcess variable inherit e = cc
 
 -- ---- a child
 
 abbrev child_refusals : Space → ℕ → Bool → List (Bool × Status)
 child_refusals s p inherit = (not (is_live s p), ProcessGone) ∷ (is_crowded s p inherit, InsufficientResources) ∷ []
 
--- a child that is given has the next number, and the values of its handles are told
+-- a child that is given has the next number, and the values of its handles are reported
 child_given : (s t : Space) (p : ℕ) (inherit : Bool) (reply : Reply) (n : ℕ) (hs : List ℕ) → Step standard s (Start p (command.NewProcess inherit)) (Done reply) t
     → reply.given ≡ Process n hs → (n ≡ s.next_process) × (hs ≡ values_in t n)
 child_given s t p inherit reply n hs step given = go (first_refusal (child_refusals s p inherit)) step
@@ -105,12 +105,12 @@ child_given s t p inherit reply n hs step given = go (first_refusal (child_refus
         let none : Nothing ≡ Process n hs = sym (ap (λ (r : Reply). r.given) it) ∙ given in cc
 
 -- so it has where a request asks for it
-pub child_told : (r : Request (List ℕ)) (p : ℕ) (words : Words) (s t : Space) (reply : Reply) (word : List ℕ) (inherit : Bool) (n : ℕ) (hs : List ℕ) → IsSound s → r ≡ request.NewProcess inherit word
-    → IsAsked r p words s reply t → reply.given ≡ Process n hs → (n ≡ s.next_process) × (hs ≡ values_in t n)
-child_told r p words s t reply word inherit n hs sound is asked given =
-    let P : Request (List ℕ) → Type 0 = λ x. IsAsked x p words s reply t in go (subst P is asked)
+pub child_told : (r : Request (List ℕ)) (p : ℕ) (variables : Variables) (s t : Space) (reply : Reply) (variable : List ℕ) (inherit : Bool) (n : ℕ) (hs : List ℕ) → IsSound s → r ≡ request.NewProcess inherit variable
+    → IsAsked r p variables s reply t → reply.given ≡ Process n hs → (n ≡ s.next_process) × (hs ≡ values_in t n)
+child_told r p variables s t reply variable inherit n hs sound is asked given =
+    let P : Request (List ℕ) → Type 0 = λ x. IsAsked x p variables s reply t in go (subst P is asked)
   where
-    go : IsAsked (request.NewProcess inherit word) p words s reply t → (n ≡ s.next_process) × (hs ≡ values_in t n)
+    go : IsAsked (request.NewProcess inherit variable) p variables s reply t → (n ≡ s.next_process) × (hs ≡ values_in t n)
     go (c, steps, spelled, chain) =
         let Q : Command StandardKind → Type 0 = λ x. Completes standard (Start p x) steps s reply t in
         child_given s t p inherit reply n hs (completes_at_once standard p (command.NewProcess inherit) steps s t reply sound refl (subst Q spelled chain)) given
@@ -127,10 +127,10 @@ holds_among (h ∷ handles) n v = go (h.process == n) (h.value == v) refl (holds
     go true false is later = rw is later
     go false b is later = later
 
--- the words that a child keeps are those that are handed on to it
-pub kept_words : (s : Space) (child : ℕ) (old new : List ℕ → ℕ) → ((word : List ℕ) → IsKept (λ v passed. passed ≡ is_some (held_of s child v)) (old word) (new word))
+-- the variables that a child keeps are those that are handed on to it
+pub kept_variables : (s : Space) (child : ℕ) (old new : List ℕ → ℕ) → ((variable : List ℕ) → IsKept (λ v passed. passed ≡ is_some (held_of s child v)) (old variable) (new variable))
     → new ≡ handed_on old true (values_in s child)
-kept_words s child old new kept = λ i w. one w (kept w) i
+kept_variables s child old new kept = λ i w. one w (kept w) i
   where
     among : (w : List ℕ) (b : Bool) → b ≡ is_some (held_of s child (old w)) → is_among (values_in s child) (old w) ≡ b
     among w b told = sym (told ∙ holds_among s.handles child (old w))
@@ -144,45 +144,45 @@ kept_words s child old new kept = λ i w. one w (kept w) i
         go true = refl
         go false = refl
 
--- a child's words, where those that it may get are its parent's or none
-handed_words : (values own : List ℕ → ℕ) (inherit : Bool) (hs : List ℕ) → own ≡ (λ word. cond inherit (values word) 0) → handed_on own true hs ≡ handed_on values inherit hs
-handed_words values own true hs is = ap (λ (x : List ℕ → ℕ). handed_on x true hs) is
-handed_words values own false hs is = ap (λ (x : List ℕ → ℕ). handed_on x true hs) is ∙ (λ i w. go (is_among hs 0) i)
+-- a child's variables, where those that it may get are its parent's or none
+handed_variables : (values own : List ℕ → ℕ) (inherit : Bool) (hs : List ℕ) → own ≡ (λ variable. cond inherit (values variable) 0) → handed_on own true hs ≡ handed_on values inherit hs
+handed_variables values own true hs is = ap (λ (x : List ℕ → ℕ). handed_on x true hs) is
+handed_variables values own false hs is = ap (λ (x : List ℕ → ℕ). handed_on x true hs) is ∙ (λ i w. go (is_among hs 0) i)
   where
     go : (b : Bool) → ◌≡◌ {A = ℕ} (cond b 0 0) 0
     go true = refl
     go false = refl
 
--- the words with a child
-pub child_words : (old mid begun new : Words) (p : ℕ) (word : List ℕ) (inherit : Bool) (n : ℕ) (hs hs' : List ℕ) (own handed : List ℕ → ℕ) (given : Given)
+-- the variables with a child
+pub child_variables : (old mid begun new : Variables) (p : ℕ) (variable : List ℕ) (inherit : Bool) (n : ℕ) (hs hs' : List ℕ) (own handed : List ℕ → ℕ) (given : Given)
     → mid ≡ old → own ≡ (λ w. cond inherit (old.values p w) 0) → handed ≡ handed_on own true hs' → hs ≡ hs' → given ≡ Process n hs
-    → begun ≡ with_words mid n handed → new ≡ with_process begun word n → new ≡ with_child old p word inherit given
-child_words old mid begun new p word inherit n hs hs' own handed given same is_own is_handed is_hs is_given first last =
-    let numbers : handed ≡ handed_on (old.values p) inherit hs = is_handed ∙ (ap (handed_on own true) (sym is_hs) ∙ handed_words (old.values p) own inherit hs is_own) in
-    last ∙ (ap (λ (x : Words). with_process x word n) first
-    ∙ (ap (λ (x : Words). with_process (with_words x n handed) word n) same
-    ∙ (ap (λ (x : List ℕ → ℕ). with_process (with_words old n x) word n) numbers ∙ sym (ap (with_child old p word inherit) is_given))))
+    → begun ≡ with_variables mid n handed → new ≡ with_process begun variable n → new ≡ with_child old p variable inherit given
+child_variables old mid begun new p variable inherit n hs hs' own handed given same is_own is_handed is_hs is_given first last =
+    let numbers : handed ≡ handed_on (old.values p) inherit hs = is_handed ∙ (ap (handed_on own true) (sym is_hs) ∙ handed_variables (old.values p) own inherit hs is_own) in
+    last ∙ (ap (λ (x : Variables). with_process x variable n) first
+    ∙ (ap (λ (x : Variables). with_process (with_variables x n handed) variable n) same
+    ∙ (ap (λ (x : List ℕ → ℕ). with_process (with_variables old n x) variable n) numbers ∙ sym (ap (with_child old p variable inherit) is_given))))
 
--- the words without one
-pub childless_words : (old mid new : Words) (p : ℕ) (word : List ℕ) (inherit : Bool) (thing : Given) → ((n : ℕ) (hs : List ℕ) → thing ≡ Process n hs → ⊥)
-    → mid ≡ old → new ≡ with_process mid word (given_process thing) → new ≡ with_child old p word inherit thing
-childless_words old mid new p word inherit thing none same last =
-    last ∙ (ap (λ (x : Words). with_process x word (given_process thing)) same ∙ go thing none)
+-- the variables without one
+pub childless_variables : (old mid new : Variables) (p : ℕ) (variable : List ℕ) (inherit : Bool) (thing : Given) → ((n : ℕ) (hs : List ℕ) → thing ≡ Process n hs → ⊥)
+    → mid ≡ old → new ≡ with_process mid variable (given_process thing) → new ≡ with_child old p variable inherit thing
+childless_variables old mid new p variable inherit thing none same last =
+    last ∙ (ap (λ (x : Variables). with_process x variable (given_process thing)) same ∙ go thing none)
   where
-    go : (thing : Given) → ((n : ℕ) (hs : List ℕ) → thing ≡ Process n hs → ⊥) → with_process old word (given_process thing) ≡ with_child old p word inherit thing
+    go : (thing : Given) → ((n : ℕ) (hs : List ℕ) → thing ≡ Process n hs → ⊥) → with_process old variable (given_process thing) ≡ with_child old p variable inherit thing
     go Nothing none = refl
     go (Handle handle) none = refl
     go (Text text) none = refl
     go (Process n hs) none = absurd (none n hs refl)
     go (Page entries context) none = refl
 
--- what a reply changes but for a child is applied whole
-pub applied_whole : (c : Change (Bor (List ℕ))) (p : ℕ) (reply : Reply) (words : Words) → ((word : Bor (List ℕ)) (inherit : Bool) → c ≡ change.SetsProcess word inherit → ⊥)
-    → applied (change_seen c) p reply words ≡ changed (change_seen c) p reply words
-applied_whole change.Nothing p reply words other = refl
-applied_whole (change.Sets word) p reply words other = refl
-applied_whole (change.SetsFor to word) p reply words other = refl
-applied_whole (change.GivesUp word) p reply words other = refl
-applied_whole (change.TurnsPage word) p reply words other = refl
-applied_whole change.GivesAllUp p reply words other = refl
-applied_whole (change.SetsProcess word inherit) p reply words other = absurd (other word inherit refl)
+-- what a reply changes except for a child is applied whole
+pub applied_whole : (c : Change (Bor (List ℕ))) (p : ℕ) (reply : Reply) (variables : Variables) → ((variable : Bor (List ℕ)) (inherit : Bool) → c ≡ change.SetsProcess variable inherit → ⊥)
+    → applied (change_seen c) p reply variables ≡ changed (change_seen c) p reply variables
+applied_whole change.Nothing p reply variables other = refl
+applied_whole (change.Sets variable) p reply variables other = refl
+applied_whole (change.SetsFor to variable) p reply variables other = refl
+applied_whole (change.GivesUp variable) p reply variables other = refl
+applied_whole (change.TurnsPage variable) p reply variables other = refl
+applied_whole change.GivesAllUp p reply variables other = refl
+applied_whole (change.SetsProcess variable inherit) p reply variables other = absurd (other variable inherit refl)

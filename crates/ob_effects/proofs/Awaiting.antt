@@ -1,4 +1,4 @@
--- The opens that wait under words go on waiting through steps that don't end them; one more begins to wait, or one ends.
+-- The opens that wait under variables go on waiting through steps that don't end them; one more begins to wait, or one ends.
 use Rattle.std.proofs.Common.{◌≡◌, ◌≢◌, ◌∙◌, ℕ, ◌<◌, ◌==◌, Bool, true, false, not, cond, List, [], ◌∷◌, ◌++◌, find, ◌⊎◌, inl, inr, All, Option, None, Some, refl, ap, sym, subst, arith, eq-eqb, eqb-true}
 use Rattle.std.specs.Prelude.{MatchOption, codes}
 use Rattle.std.specs.Str.{bytes_eq}
@@ -16,7 +16,7 @@ use Rattle.ob_model.specs.declared.reply.ParseRun.TheVariants as run
 use Rattle.ob_model.specs.Parses.{Abandons}
 use Rattle.ob_model.specs.Refusals.{answers}
 use Rattle.ob_model.specs.declared.reply.Reply.{Reply}
-use Rattle.ob_model.specs.declared.state.Pending.{Pending}
+use Rattle.ob_model.specs.declared.state.PendingOpen.{PendingOpen}
 use Rattle.ob_model.specs.PendingOpens.{face_of, pending_of}
 use Rattle.ob_model.specs.Sound.{IsSound}
 use Rattle.ob_model.specs.Step.{Step}
@@ -41,13 +41,13 @@ use Rattle.ob_lines.specs.declared.pending.PendingForm.{PendingForm}
 use Rattle.ob_lines.specs.declared.pending.PendingForm.TheVariants as pending
 use Rattle.ob_lines.specs.declared.request.Request.{Request}
 use Rattle.ob_parts.specs.declared.name.NameForm.{NameForm}
-use Rattle.ob_requests.specs.Commands.{IsOpenObject, is_success, with_child, with_page, changed, words_after}
-use Rattle.ob_requests.specs.Words.{Words, first_words, with_ticket, with_number_of, with_word, without_words}
+use Rattle.ob_requests.specs.Commands.{IsOpenObject, is_success, with_child, with_page, changed, variables_after}
+use Rattle.ob_requests.specs.Variables.{Variables, first_variables, with_ticket, with_number_of, with_variable, without_variables}
 use Rattle.ob_standard_core.specs.Machine.{Space}
 use Rattle.ob_effects.specs.Kept.{WaitsUnder, AreWaiting}
 use Rattle.ob_effects.specs.Effects.{MakesStep, WantsMemory}
-use Rattle.ob_effects.specs.Waiting.{Steps, AreTickets, IsUnderWord, IsEvent, FindsNone, word_of, words_answered}
-use Rattle.ob_effects.proofs.Tickets.{IsWordOf, IsSet, is_set, its_number, bytes_same, stays_other, cleared_listed, cleared_apart, begun_listed, begun_apart}
+use Rattle.ob_effects.specs.Waiting.{Steps, AreTickets, IsUnderVariable, IsEvent, FindsNone, variable_of, variables_answered}
+use Rattle.ob_effects.proofs.Tickets.{IsVariableOf, IsSet, is_set, its_number, bytes_same, stays_other, cleared_listed, cleared_apart, begun_listed, begun_apart}
 
 -- an open goes on waiting
 pub goes_on_waiting : (s t : Space) (event : Event StandardKind) (a : Answer) (n p : ℕ) → IsSound s → IsNoEnd n event → Step standard s event a t → WaitsUnder s n p → WaitsUnder t n p
@@ -64,12 +64,12 @@ found_all {X} P test (y ∷ ys) x h e = go (test y) e (found_all P test ys x (Al
     go true e on = let same : y ≡ x = cc in subst P same (All-head P y ys h)
     go false e on = on e
 
-found_ticket : (n : ℕ) (xs : List (Pending StandardKind)) (x : Pending StandardKind) → find (λ y. y.ticket == n) xs ≡ Some x → x.ticket ≡ n
+found_ticket : (n : ℕ) (xs : List (PendingOpen StandardKind)) (x : PendingOpen StandardKind) → find (λ y. y.ticket == n) xs ≡ Some x → x.ticket ≡ n
 found_ticket n [] x e = cc
 found_ticket n (y ∷ ys) x e = go (y.ticket == n) refl e (found_ticket n ys x)
   where
     go : (b : Bool) → (y.ticket == n) ≡ b → cond b (Some y) (find (λ z. z.ticket == n) ys) ≡ Some x → (find (λ z. z.ticket == n) ys ≡ Some x → x.ticket ≡ n) → x.ticket ≡ n
-    go true is e on = let same : y ≡ x = cc in ap (λ (z : Pending StandardKind). z.ticket) (sym same) ∙ eqb-true y.ticket n is
+    go true is e on = let same : y ≡ x = cc in ap (λ (z : PendingOpen StandardKind). z.ticket) (sym same) ∙ eqb-true y.ticket n is
     go false is e on = on e
 
 pub is_drawn : (s : Space) (n p : ℕ) → IsSound s → WaitsUnder s n p → n < s.next_id
@@ -93,80 +93,80 @@ begins_to_wait s t n p (x, begun, theirs) = go (face_of t x.object) refl begun.1
 pub waits_for_process : (s : Space) (n p : ℕ) → WaitsUnder s n p → WaitsFor s n p
 waits_for_process s n p (x, face, found, has, theirs, parses) = subst (λ o. MatchOption o ⊥ (λ y. y.process ≡ p)) (sym found) theirs
 
--- ---- the opens that wait under words
+-- ---- the opens that wait under variables
 
--- the words have the same tickets
-pub same_waiting : (s : Space) (words words' : Words) (tickets : List ℕ) → words'.tickets ≡ words.tickets → AreWaiting s words tickets → AreWaiting s words' tickets
-same_waiting s words words' tickets same waiting = record {
+-- the variables have the same tickets
+pub same_waiting : (s : Space) (variables variables' : Variables) (tickets : List ℕ) → variables'.tickets ≡ variables.tickets → AreWaiting s variables tickets → AreWaiting s variables' tickets
+same_waiting s variables variables' tickets same waiting = record {
   listed = subst (λ f. AreTickets f tickets) (sym same) waiting.listed;
   theirs = subst (λ (f : ℕ → List ℕ → ℕ). (p : ℕ) (w : List ℕ) → (f p w ≡ 0) ⊎ WaitsUnder s (f p w) p) (sym same) waiting.theirs;
   apart = subst (λ (f : ℕ → List ℕ → ℕ). (p q : ℕ) (a b : List ℕ) → f p a ≡ f q b → (f p a ≡ 0) ⊎ ((p ≡ q) × (bytes_eq a b ≡ true))) (sym same) waiting.apart;
 }
 
 -- all go on waiting
-pub moved_waiting : (s t : Space) (words : Words) (tickets : List ℕ) → ((n p : ℕ) → WaitsUnder s n p → WaitsUnder t n p) → AreWaiting s words tickets → AreWaiting t words tickets
-moved_waiting s t words tickets on waiting = record {
+pub moved_waiting : (s t : Space) (variables : Variables) (tickets : List ℕ) → ((n p : ℕ) → WaitsUnder s n p → WaitsUnder t n p) → AreWaiting s variables tickets → AreWaiting t variables tickets
+moved_waiting s t variables tickets on waiting = record {
   listed = waiting.listed;
   theirs = λ p w. go p w (waiting.theirs p w);
   apart = waiting.apart;
 }
   where
-    go : (p : ℕ) (w : List ℕ) → (words.tickets p w ≡ 0) ⊎ WaitsUnder s (words.tickets p w) p → (words.tickets p w ≡ 0) ⊎ WaitsUnder t (words.tickets p w) p
+    go : (p : ℕ) (w : List ℕ) → (variables.tickets p w ≡ 0) ⊎ WaitsUnder s (variables.tickets p w) p → (variables.tickets p w ≡ 0) ⊎ WaitsUnder t (variables.tickets p w) p
     go p w (inl none) = inl none
-    go p w (inr waits) = inr (on (words.tickets p w) p waits)
+    go p w (inr waits) = inr (on (variables.tickets p w) p waits)
 
 -- all tickets were drawn before
-pub are_drawn : (s : Space) (words : Words) (tickets : List ℕ) → IsSound s → AreWaiting s words tickets → All (λ k. k < s.next_id) tickets
-are_drawn s words tickets sound waiting = All-weaker (IsUnderWord words.tickets) (λ k. k < s.next_id) one tickets waiting.listed.held
+pub are_drawn : (s : Space) (variables : Variables) (tickets : List ℕ) → IsSound s → AreWaiting s variables tickets → All (λ k. k < s.next_id) tickets
+are_drawn s variables tickets sound waiting = All-weaker (IsUnderVariable variables.tickets) (λ k. k < s.next_id) one tickets waiting.listed.held
   where
-    one : (n : ℕ) → IsUnderWord words.tickets n → n < s.next_id
+    one : (n : ℕ) → IsUnderVariable variables.tickets n → n < s.next_id
     one n (some, (p, w, e)) = go (waiting.theirs p w)
       where
-        go : (words.tickets p w ≡ 0) ⊎ WaitsUnder s (words.tickets p w) p → n < s.next_id
+        go : (variables.tickets p w ≡ 0) ⊎ WaitsUnder s (variables.tickets p w) p → n < s.next_id
         go (inl none) = absurd (some (sym e ∙ none))
-        go (inr waits) = subst (λ k. k < s.next_id) e (is_drawn s (words.tickets p w) p sound waits)
+        go (inr waits) = subst (λ k. k < s.next_id) e (is_drawn s (variables.tickets p w) p sound waits)
 
--- one ends, under its word, and the others go on
-pub cleared_waiting : (s t : Space) (words words' : Words) (process : ℕ) (word : List ℕ) (tickets : List ℕ) → words.tickets process word ≢ 0 → IsSet words.tickets words'.tickets process word 0
-    → ((n p : ℕ) → words.tickets process word ≢ n → WaitsUnder s n p → WaitsUnder t n p) → AreWaiting s words tickets → AreWaiting t words' (without (words.tickets process word) tickets)
-cleared_waiting s t words words' process word tickets some set on waiting = record {
-  listed = cleared_listed f h process word n refl some set waiting.apart tickets waiting.listed;
+-- one ends, under its variable, and the others go on
+pub cleared_waiting : (s t : Space) (variables variables' : Variables) (process : ℕ) (variable : List ℕ) (tickets : List ℕ) → variables.tickets process variable ≢ 0 → IsSet variables.tickets variables'.tickets process variable 0
+    → ((n p : ℕ) → variables.tickets process variable ≢ n → WaitsUnder s n p → WaitsUnder t n p) → AreWaiting s variables tickets → AreWaiting t variables' (without (variables.tickets process variable) tickets)
+cleared_waiting s t variables variables' process variable tickets some set on waiting = record {
+  listed = cleared_listed f h process variable n refl some set waiting.apart tickets waiting.listed;
   theirs = λ p w. go p w (set p w) (waiting.theirs p w);
-  apart = cleared_apart f h process word n refl some set waiting.apart;
+  apart = cleared_apart f h process variable n refl some set waiting.apart;
 }
   where
     f : ℕ → List ℕ → ℕ
-    f = words.tickets
+    f = variables.tickets
 
     h : ℕ → List ℕ → ℕ
-    h = words'.tickets
+    h = variables'.tickets
 
     n : ℕ
-    n = words.tickets process word
+    n = variables.tickets process variable
 
-    go : (p : ℕ) (w : List ℕ) → (IsWordOf process word p w × (h p w ≡ 0)) ⊎ ((IsWordOf process word p w → ⊥) × (h p w ≡ f p w))
+    go : (p : ℕ) (w : List ℕ) → (IsVariableOf process variable p w × (h p w ≡ 0)) ⊎ ((IsVariableOf process variable p w → ⊥) × (h p w ≡ f p w))
         → (f p w ≡ 0) ⊎ WaitsUnder s (f p w) p → (h p w ≡ 0) ⊎ WaitsUnder t (h p w) p
     go p w (inl (is, none)) waits = inl none
     go p w (inr (other, same)) (inl none) = inl (same ∙ none)
     go p w (inr (other, same)) (inr waits) =
-        inr (subst (λ k. WaitsUnder t k p) (sym same) (on (f p w) p (λ is. stays_other f h process word n refl some set waiting.apart p w other (sym is)) waits))
+        inr (subst (λ k. WaitsUnder t k p) (sym same) (on (f p w) p (λ is. stays_other f h process variable n refl some set waiting.apart p w other (sym is)) waits))
 
--- one more begins to wait, under a word under which none waits
-pub begun_waiting : (t : Space) (words words' : Words) (process : ℕ) (word : List ℕ) (n : ℕ) (tickets : List ℕ) → words.tickets process word ≡ 0 → n ≢ 0
-    → IsSet words.tickets words'.tickets process word n → All (λ k. k < n) tickets → WaitsUnder t n process → AreWaiting t words tickets → AreWaiting t words' (tickets ++ n ∷ [])
-begun_waiting t words words' process word n tickets free some set below waits waiting = record {
-  listed = begun_listed f h process word n free some set tickets below waiting.listed;
+-- one more begins to wait, under a variable under which none waits
+pub begun_waiting : (t : Space) (variables variables' : Variables) (process : ℕ) (variable : List ℕ) (n : ℕ) (tickets : List ℕ) → variables.tickets process variable ≡ 0 → n ≢ 0
+    → IsSet variables.tickets variables'.tickets process variable n → All (λ k. k < n) tickets → WaitsUnder t n process → AreWaiting t variables tickets → AreWaiting t variables' (tickets ++ n ∷ [])
+begun_waiting t variables variables' process variable n tickets free some set below waits waiting = record {
+  listed = begun_listed f h process variable n free some set tickets below waiting.listed;
   theirs = λ p w. go p w (set p w) (waiting.theirs p w);
-  apart = begun_apart f h process word n free some set tickets below waiting.listed waiting.apart;
+  apart = begun_apart f h process variable n free some set tickets below waiting.listed waiting.apart;
 }
   where
     f : ℕ → List ℕ → ℕ
-    f = words.tickets
+    f = variables.tickets
 
     h : ℕ → List ℕ → ℕ
-    h = words'.tickets
+    h = variables'.tickets
 
-    go : (p : ℕ) (w : List ℕ) → (IsWordOf process word p w × (h p w ≡ n)) ⊎ ((IsWordOf process word p w → ⊥) × (h p w ≡ f p w))
+    go : (p : ℕ) (w : List ℕ) → (IsVariableOf process variable p w × (h p w ≡ n)) ⊎ ((IsVariableOf process variable p w → ⊥) × (h p w ≡ f p w))
         → (f p w ≡ 0) ⊎ WaitsUnder t (f p w) p → (h p w ≡ 0) ⊎ WaitsUnder t (h p w) p
     go p w (inl (is, set)) other = inr (subst (λ k. WaitsUnder t k p) (sym set) (subst (WaitsUnder t n) is.0 waits))
     go p w (inr (other, same)) (inl none) = inl (same ∙ none)
@@ -174,12 +174,12 @@ begun_waiting t words words' process word n tickets free some set below waits wa
 
 -- ---- lines of opens that wait
 
--- a line that begins an open makes a step where none waits under its word, and one that ends or drops one where one does
-pub begin_free : (words : Words) (p : ℕ) (want : Option KindForm) (name : NameForm (List ℕ)) (attrs : ℕ) (word : List ℕ) → MakesStep (pending.Begin want name attrs word) p words → words.tickets p word ≡ 0
-begin_free words p want name attrs word h = go (words.tickets p word == 0) refl h
+-- a line that begins an open makes a step where none waits under its variable, and one that ends or drops one where one does
+pub begin_free : (variables : Variables) (p : ℕ) (want : Option KindForm) (name : NameForm (List ℕ)) (attrs : ℕ) (variable : List ℕ) → MakesStep (pending.Begin want name attrs variable) p variables → variables.tickets p variable ≡ 0
+begin_free variables p want name attrs variable h = go (variables.tickets p variable == 0) refl h
   where
-    go : (b : Bool) → (words.tickets p word == 0) ≡ b → cond (not b) (Some (codes "BUSY")) None ≡ None → words.tickets p word ≡ 0
-    go true e h = eqb-true (words.tickets p word) 0 e
+    go : (b : Bool) → (variables.tickets p variable == 0) ≡ b → cond (not b) (Some (codes "BUSY")) None ≡ None → variables.tickets p variable ≡ 0
+    go true e h = eqb-true (variables.tickets p variable) 0 e
     go false e h = cc
 
 some_waits : (n : ℕ) → cond (not (n == 0)) None (Some (codes "NO PENDING")) ≡ None → n ≢ 0
@@ -189,11 +189,11 @@ some_waits n h = go (n == 0) refl h
     go true e h = cc
     go false e h = λ is. let bad : true ≡ false = sym (eq-eqb n 0 is) ∙ e in cc
 
-pub end_some : (words : Words) (p : ℕ) (word : List ℕ) → MakesStep (pending.End word) p words → words.tickets p word ≢ 0
-end_some words p word h = some_waits (words.tickets p word) h
+pub end_some : (variables : Variables) (p : ℕ) (variable : List ℕ) → MakesStep (pending.End variable) p variables → variables.tickets p variable ≢ 0
+end_some variables p variable h = some_waits (variables.tickets p variable) h
 
-pub drop_some : (words : Words) (p : ℕ) (word : List ℕ) → MakesStep (pending.Drop word) p words → words.tickets p word ≢ 0
-drop_some words p word h = some_waits (words.tickets p word) h
+pub drop_some : (variables : Variables) (p : ℕ) (variable : List ℕ) → MakesStep (pending.Drop variable) p variables → variables.tickets p variable ≢ 0
+drop_some variables p variable h = some_waits (variables.tickets p variable) h
 
 -- tickets with that of an answer, where it is one
 abbrev pub with_answer : Answer → List ℕ → List ℕ
@@ -204,77 +204,77 @@ pub begun_tickets : (begun : Begun) (tickets : List ℕ) → with_begun begun ti
 begun_tickets (begun.Replied reply) tickets = refl
 begun_tickets (begun.Waits n) tickets = refl
 
--- the tickets of words where none is cleared
-cleared_none : (f : ℕ → List ℕ → ℕ) (process : ℕ) (word : List ℕ) → f process word ≡ 0 → with_number_of f process word 0 ≡ f
-cleared_none f process word none = λ i p w. one p w (is_set f process word 0 p w) i
+-- the tickets of variables where none is cleared
+cleared_none : (f : ℕ → List ℕ → ℕ) (process : ℕ) (variable : List ℕ) → f process variable ≡ 0 → with_number_of f process variable 0 ≡ f
+cleared_none f process variable none = λ i p w. one p w (is_set f process variable 0 p w) i
   where
-    one : (p : ℕ) (w : List ℕ) → (IsWordOf process word p w × (with_number_of f process word 0 p w ≡ 0)) ⊎ ((IsWordOf process word p w → ⊥) × (with_number_of f process word 0 p w ≡ f p w))
-        → with_number_of f process word 0 p w ≡ f p w
-    one p w (inl (is, zero)) = zero ∙ sym (its_number f process p word w is ∙ none)
+    one : (p : ℕ) (w : List ℕ) → (IsVariableOf process variable p w × (with_number_of f process variable 0 p w ≡ 0)) ⊎ ((IsVariableOf process variable p w → ⊥) × (with_number_of f process variable 0 p w ≡ f p w))
+        → with_number_of f process variable 0 p w ≡ f p w
+    one p w (inl (is, zero)) = zero ∙ sym (its_number f process p variable w is ∙ none)
     one p w (inr (other, same)) = same
 
--- one number set behind another
-set_behind : (f : ℕ → List ℕ → ℕ) (process : ℕ) (word : List ℕ) (n : ℕ) → IsSet (with_number_of f process word 0) (with_number_of f process word n) process word n
-set_behind f process word n p w = go (is_set f process word n p w) (is_set f process word 0 p w)
+-- one number set after another
+set_behind : (f : ℕ → List ℕ → ℕ) (process : ℕ) (variable : List ℕ) (n : ℕ) → IsSet (with_number_of f process variable 0) (with_number_of f process variable n) process variable n
+set_behind f process variable n p w = go (is_set f process variable n p w) (is_set f process variable 0 p w)
   where
-    go : (IsWordOf process word p w × (with_number_of f process word n p w ≡ n)) ⊎ ((IsWordOf process word p w → ⊥) × (with_number_of f process word n p w ≡ f p w))
-        → (IsWordOf process word p w × (with_number_of f process word 0 p w ≡ 0)) ⊎ ((IsWordOf process word p w → ⊥) × (with_number_of f process word 0 p w ≡ f p w))
-        → (IsWordOf process word p w × (with_number_of f process word n p w ≡ n)) ⊎ ((IsWordOf process word p w → ⊥) × (with_number_of f process word n p w ≡ with_number_of f process word 0 p w))
+    go : (IsVariableOf process variable p w × (with_number_of f process variable n p w ≡ n)) ⊎ ((IsVariableOf process variable p w → ⊥) × (with_number_of f process variable n p w ≡ f p w))
+        → (IsVariableOf process variable p w × (with_number_of f process variable 0 p w ≡ 0)) ⊎ ((IsVariableOf process variable p w → ⊥) × (with_number_of f process variable 0 p w ≡ f p w))
+        → (IsVariableOf process variable p w × (with_number_of f process variable n p w ≡ n)) ⊎ ((IsVariableOf process variable p w → ⊥) × (with_number_of f process variable n p w ≡ with_number_of f process variable 0 p w))
     go (inl is) k = inl is
     go (inr (other, same)) (inl (is, zero)) = absurd (other is)
     go (inr (other, same)) (inr (other_too, same_too)) = inr (other, same ∙ sym same_too)
 
-pub none_held : (words : Words) (p : ℕ) (word : List ℕ) → with_number_of words.tickets p word 0 p word ≡ 0
-none_held words p word = elim (is_set words.tickets p word 0 p word) as (λ x. with_number_of words.tickets p word 0 p word ≡ 0) [
+pub none_held : (variables : Variables) (p : ℕ) (variable : List ℕ) → with_number_of variables.tickets p variable 0 p variable ≡ 0
+none_held variables p variable = elim (is_set variables.tickets p variable 0 p variable) as (λ x. with_number_of variables.tickets p variable 0 p variable ≡ 0) [
   | inl (is, zero) ↦ zero
-  | inr (other, same) ↦ absurd (other (refl, bytes_same word word refl))
+  | inr (other, same) ↦ absurd (other (refl, bytes_same variable variable refl))
 ]
 
 all_without : (P : ℕ → Type 0) (n : ℕ) (tickets : List ℕ) → All P tickets → All P (without n tickets)
 all_without P n tickets h = All-filter (λ k. not (k == n)) P tickets h
 
 -- an open was begun
-pub begin_waiting : (s t : Space) (words : Words) (p : ℕ) (word : List ℕ) (c : Command StandardKind) (a : Answer) (tickets : List ℕ) → IsSound s → words.tickets p word ≡ 0
-    → Step standard s (Start p c) a t → AreWaiting s words tickets → AreWaiting t (words_answered words p word a) (with_answer a tickets)
-begin_waiting s t words p word c (Done reply) tickets sound free step waiting =
-    same_waiting t words (words_answered words p word (Done reply)) tickets (cleared_none words.tickets p word free)
-    (moved_waiting s t words tickets (λ n q waits. goes_on_waiting s t (Start p c) (Done reply) n q sound tt step waits) waiting)
-begin_waiting s t words p word c (Ticket m) tickets sound free step waiting =
+pub begin_waiting : (s t : Space) (variables : Variables) (p : ℕ) (variable : List ℕ) (c : Command StandardKind) (a : Answer) (tickets : List ℕ) → IsSound s → variables.tickets p variable ≡ 0
+    → Step standard s (Start p c) a t → AreWaiting s variables tickets → AreWaiting t (variables_answered variables p variable a) (with_answer a tickets)
+begin_waiting s t variables p variable c (Done reply) tickets sound free step waiting =
+    same_waiting t variables (variables_answered variables p variable (Done reply)) tickets (cleared_none variables.tickets p variable free)
+    (moved_waiting s t variables tickets (λ n q waits. goes_on_waiting s t (Start p c) (Done reply) n q sound tt step waits) waiting)
+begin_waiting s t variables p variable c (Ticket m) tickets sound free step waiting =
     let waits : WaitsUnder t m p = begins_to_wait s t m p (start_begins standard s t m sound p c step).0 in
     let next : m ≡ s.next_id = ticket_is_next standard m s t (Start p c) step in
-    begun_waiting t words (with_ticket words p word m) p word m tickets free (is_some t m p (step_sound standard s t (Start p c) (Ticket m) sound step) waits) (is_set words.tickets p word m)
-    (subst (λ n. All (λ k. k < n) tickets) (sym next) (are_drawn s words tickets sound waiting)) waits
-    (moved_waiting s t words tickets (λ n q waits. goes_on_waiting s t (Start p c) (Ticket m) n q sound tt step waits) waiting)
+    begun_waiting t variables (with_ticket variables p variable m) p variable m tickets free (is_some t m p (step_sound standard s t (Start p c) (Ticket m) sound step) waits) (is_set variables.tickets p variable m)
+    (subst (λ n. All (λ k. k < n) tickets) (sym next) (are_drawn s variables tickets sound waiting)) waits
+    (moved_waiting s t variables tickets (λ n q waits. goes_on_waiting s t (Start p c) (Ticket m) n q sound tt step waits) waiting)
 
--- an open was ended under its word
-pub end_waiting : (s t : Space) (words : Words) (p : ℕ) (word : List ℕ) (parse : ParseRun) (a : Answer) (tickets : List ℕ) → IsSound s → words.tickets p word ≢ 0
-    → Step standard s (Resume (words.tickets p word) parse) a t → AreWaiting s words tickets
-    → AreWaiting t (words_answered words p word a) (with_answer a (without (words.tickets p word) tickets))
-end_waiting s t words p word parse (Done reply) tickets sound some step waiting =
-    cleared_waiting s t words (words_answered words p word (Done reply)) p word tickets some (is_set words.tickets p word 0)
-    (λ n q other waits. goes_on_waiting s t (Resume (words.tickets p word) parse) (Done reply) n q sound other step waits) waiting
-end_waiting s t words p word parse (Ticket m) tickets sound some step waiting =
-    let event : Event StandardKind = Resume (words.tickets p word) parse in
-    let owned : WaitsUnder s (words.tickets p word) p = owner (waiting.theirs p word) in
-    let waits : WaitsUnder t m p = begins_to_wait s t m p (step_begins standard s t m sound (words.tickets p word) parse p (waits_for_process s (words.tickets p word) p owned) step) in
+-- an open was ended under its variable
+pub end_waiting : (s t : Space) (variables : Variables) (p : ℕ) (variable : List ℕ) (parse : ParseRun) (a : Answer) (tickets : List ℕ) → IsSound s → variables.tickets p variable ≢ 0
+    → Step standard s (Resume (variables.tickets p variable) parse) a t → AreWaiting s variables tickets
+    → AreWaiting t (variables_answered variables p variable a) (with_answer a (without (variables.tickets p variable) tickets))
+end_waiting s t variables p variable parse (Done reply) tickets sound some step waiting =
+    cleared_waiting s t variables (variables_answered variables p variable (Done reply)) p variable tickets some (is_set variables.tickets p variable 0)
+    (λ n q other waits. goes_on_waiting s t (Resume (variables.tickets p variable) parse) (Done reply) n q sound other step waits) waiting
+end_waiting s t variables p variable parse (Ticket m) tickets sound some step waiting =
+    let event : Event StandardKind = Resume (variables.tickets p variable) parse in
+    let owned : WaitsUnder s (variables.tickets p variable) p = owner (waiting.theirs p variable) in
+    let waits : WaitsUnder t m p = begins_to_wait s t m p (step_begins standard s t m sound (variables.tickets p variable) parse p (waits_for_process s (variables.tickets p variable) p owned) step) in
     let next : m ≡ s.next_id = ticket_is_next standard m s t event step in
-    begun_waiting t (with_ticket words p word 0) (with_ticket words p word m) p word m (without (words.tickets p word) tickets) (none_held words p word)
-    (is_some t m p (step_sound standard s t event (Ticket m) sound step) waits) (set_behind words.tickets p word m)
-    (subst (λ n. All (λ k. k < n) (without (words.tickets p word) tickets)) (sym next) (all_without (λ k. k < s.next_id) (words.tickets p word) tickets (are_drawn s words tickets sound waiting))) waits
-    (cleared_waiting s t words (with_ticket words p word 0) p word tickets some (is_set words.tickets p word 0)
+    begun_waiting t (with_ticket variables p variable 0) (with_ticket variables p variable m) p variable m (without (variables.tickets p variable) tickets) (none_held variables p variable)
+    (is_some t m p (step_sound standard s t event (Ticket m) sound step) waits) (set_behind variables.tickets p variable m)
+    (subst (λ n. All (λ k. k < n) (without (variables.tickets p variable) tickets)) (sym next) (all_without (λ k. k < s.next_id) (variables.tickets p variable) tickets (are_drawn s variables tickets sound waiting))) waits
+    (cleared_waiting s t variables (with_ticket variables p variable 0) p variable tickets some (is_set variables.tickets p variable 0)
     (λ n q other waits. goes_on_waiting s t event (Ticket m) n q sound other step waits) waiting)
   where
-    owner : (words.tickets p word ≡ 0) ⊎ WaitsUnder s (words.tickets p word) p → WaitsUnder s (words.tickets p word) p
+    owner : (variables.tickets p variable ≡ 0) ⊎ WaitsUnder s (variables.tickets p variable) p → WaitsUnder s (variables.tickets p variable) p
     owner (inl none) = absurd (some none)
     owner (inr waits) = waits
 
--- an open was given up under its word
-pub dropped_waiting : (s t : Space) (words words' : Words) (p : ℕ) (word : List ℕ) (parse : ParseRun) (a : Answer) (tickets : List ℕ) → IsSound s → words.tickets p word ≢ 0
-    → words'.tickets ≡ with_number_of words.tickets p word 0 → Step standard s (Abandon (words.tickets p word) parse) a t → AreWaiting s words tickets
-    → AreWaiting t words' (without (words.tickets p word) tickets)
-dropped_waiting s t words words' p word parse a tickets sound some same step waiting =
-    cleared_waiting s t words words' p word tickets some (subst (λ h. IsSet words.tickets h p word 0) (sym same) (is_set words.tickets p word 0))
-    (λ n q other waits. goes_on_waiting s t (Abandon (words.tickets p word) parse) a n q sound other step waits) waiting
+-- an open was given up under its variable
+pub dropped_waiting : (s t : Space) (variables variables' : Variables) (p : ℕ) (variable : List ℕ) (parse : ParseRun) (a : Answer) (tickets : List ℕ) → IsSound s → variables.tickets p variable ≢ 0
+    → variables'.tickets ≡ with_number_of variables.tickets p variable 0 → Step standard s (Abandon (variables.tickets p variable) parse) a t → AreWaiting s variables tickets
+    → AreWaiting t variables' (without (variables.tickets p variable) tickets)
+dropped_waiting s t variables variables' p variable parse a tickets sound some same step waiting =
+    cleared_waiting s t variables variables' p variable tickets some (subst (λ h. IsSet variables.tickets h p variable 0) (sym same) (is_set variables.tickets p variable 0))
+    (λ n q other waits. goes_on_waiting s t (Abandon (variables.tickets p variable) parse) a n q sound other step waits) waiting
 
 -- ---- requests
 
@@ -306,127 +306,127 @@ falters_goes_on event (step ∷ steps) s t n p sound other waits (m, u, asked, a
     gives_up_goes_on m steps u t n p (step_sound standard s u step.0 step.1 sound made) (drawn_apart s u step.0 m n p sound (subst (λ a. Step standard s step.0 a u) answered made) waits)
     (goes_on_waiting s u step.0 step.1 n p sound (subst (IsNoEnd n) (sym asked) other) made waits) h
 
--- the reply to a request leaves the tickets of words
-changed_tickets : (change : Change (List ℕ)) (p : ℕ) (reply : Reply) (words : Words) → (changed change p reply words).tickets ≡ words.tickets
-changed_tickets change.Nothing p reply words = refl
-changed_tickets (change.Sets word) p reply words = refl
-changed_tickets (change.SetsFor to word) p reply words = refl
-changed_tickets (change.GivesUp word) p reply words = go (is_success reply.status)
+-- the reply to a request leaves the tickets of variables
+changed_tickets : (change : Change (List ℕ)) (p : ℕ) (reply : Reply) (variables : Variables) → (changed change p reply variables).tickets ≡ variables.tickets
+changed_tickets change.Nothing p reply variables = refl
+changed_tickets (change.Sets variable) p reply variables = refl
+changed_tickets (change.SetsFor to variable) p reply variables = refl
+changed_tickets (change.GivesUp variable) p reply variables = go (is_success reply.status)
   where
-    go : (b : Bool) → (cond b (with_word words p word 0) words).tickets ≡ words.tickets
+    go : (b : Bool) → (cond b (with_variable variables p variable 0) variables).tickets ≡ variables.tickets
     go true = refl
     go false = refl
-changed_tickets change.GivesAllUp p reply words = go (is_success reply.status)
+changed_tickets change.GivesAllUp p reply variables = go (is_success reply.status)
   where
-    go : (b : Bool) → (cond b (without_words words p) words).tickets ≡ words.tickets
+    go : (b : Bool) → (cond b (without_variables variables p) variables).tickets ≡ variables.tickets
     go true = refl
     go false = refl
-changed_tickets (change.TurnsPage word) p reply words = go reply.given
+changed_tickets (change.TurnsPage variable) p reply variables = go reply.given
   where
-    go : (given : Given) → (with_page words p word given).tickets ≡ words.tickets
+    go : (given : Given) → (with_page variables p variable given).tickets ≡ variables.tickets
     go given.Nothing = refl
     go (given.Handle value) = refl
     go (given.Text text) = refl
     go (given.Process number values) = refl
     go (given.Page entries context) = refl
-changed_tickets (change.SetsProcess word inherit) p reply words = go reply.given
+changed_tickets (change.SetsProcess variable inherit) p reply variables = go reply.given
   where
-    go : (given : Given) → (with_child words p word inherit given).tickets ≡ words.tickets
+    go : (given : Given) → (with_child variables p variable inherit given).tickets ≡ variables.tickets
     go given.Nothing = refl
     go (given.Handle value) = refl
     go (given.Text text) = refl
     go (given.Process number values) = refl
     go (given.Page entries context) = refl
 
-pub answered_waiting : (s t : Space) (words : Words) (p : ℕ) (request : Request (List ℕ)) (c : Command StandardKind) (steps : Steps) (reply : Reply) (tickets : List ℕ) → IsSound s
-    → Completes standard (Start p c) steps s reply t → AreWaiting s words tickets → AreWaiting t (words_after request p reply words) tickets
-answered_waiting s t words p request c steps reply tickets sound chain waiting =
-    same_waiting t words (words_after request p reply words) tickets (changed_tickets (change_of request) p reply words)
-    (moved_waiting s t words tickets (λ n q waits. completes_goes_on (Start p c) steps s t reply n q sound tt waits chain) waiting)
+pub answered_waiting : (s t : Space) (variables : Variables) (p : ℕ) (request : Request (List ℕ)) (c : Command StandardKind) (steps : Steps) (reply : Reply) (tickets : List ℕ) → IsSound s
+    → Completes standard (Start p c) steps s reply t → AreWaiting s variables tickets → AreWaiting t (variables_after request p reply variables) tickets
+answered_waiting s t variables p request c steps reply tickets sound chain waiting =
+    same_waiting t variables (variables_after request p reply variables) tickets (changed_tickets (change_of request) p reply variables)
+    (moved_waiting s t variables tickets (λ n q waits. completes_goes_on (Start p c) steps s t reply n q sound tt waits chain) waiting)
 
-pub unanswered_waiting : (s t : Space) (words : Words) (p : ℕ) (request : Request (List ℕ)) (steps : Steps) (tickets : List ℕ) → IsSound s
-    → WantsMemory request p words steps s t → AreWaiting s words tickets → AreWaiting t words tickets
-unanswered_waiting s t words p request steps tickets sound (inl (none, same, grows)) waiting = subst (λ x. AreWaiting x words tickets) (sym same) waiting
-unanswered_waiting s t words p request steps tickets sound (inr (c, command, falters)) waiting =
-    moved_waiting s t words tickets (λ n q waits. falters_goes_on (Start p c) steps s t n q sound tt waits falters) waiting
+pub unanswered_waiting : (s t : Space) (variables : Variables) (p : ℕ) (request : Request (List ℕ)) (steps : Steps) (tickets : List ℕ) → IsSound s
+    → WantsMemory request p variables steps s t → AreWaiting s variables tickets → AreWaiting t variables tickets
+unanswered_waiting s t variables p request steps tickets sound (inl (none, same, grows)) waiting = subst (λ x. AreWaiting x variables tickets) (sym same) waiting
+unanswered_waiting s t variables p request steps tickets sound (inr (c, command, falters)) waiting =
+    moved_waiting s t variables tickets (λ n q waits. falters_goes_on (Start p c) steps s t n q sound tt waits falters) waiting
 
 -- ---- a line of an open that waits, whatever it is
 
 -- where it found no memory: nothing waits anew, and the open of an `end` is given up, or waits on
-pub begin_stopped : (s t : Space) (words words' : Words) (p : ℕ) (want : Option KindForm) (name : NameForm (List ℕ)) (attrs : ℕ) (word : List ℕ) (steps : Steps) (tickets : List ℕ) → IsSound s
-    → FindsNone (pending.Begin want name attrs word) words p steps s t words' → AreWaiting s words tickets → AreWaiting t words' tickets
-begin_stopped s t words words' p want name attrs word steps tickets sound (none, same) waiting =
-    same_waiting t words words' tickets (ap (λ (w : Words). w.tickets) same) (go none)
+pub begin_stopped : (s t : Space) (variables variables' : Variables) (p : ℕ) (want : Option KindForm) (name : NameForm (List ℕ)) (attrs : ℕ) (variable : List ℕ) (steps : Steps) (tickets : List ℕ) → IsSound s
+    → FindsNone (pending.Begin want name attrs variable) variables p steps s t variables' → AreWaiting s variables tickets → AreWaiting t variables' tickets
+begin_stopped s t variables variables' p want name attrs variable steps tickets sound (none, same) waiting =
+    same_waiting t variables variables' tickets (ap (λ (w : Variables). w.tickets) same) (go none)
   where
-    go : ((steps ≡ []) × (t ≡ s)) ⊎ ((c : Command StandardKind) × IsOpenObject want name attrs (words.values p) c × Falters standard (Start p c) steps s t) → AreWaiting t words tickets
-    go (inl (none, same)) = subst (λ x. AreWaiting x words tickets) (sym same) waiting
-    go (inr (c, command, falters)) = moved_waiting s t words tickets (λ n q waits. falters_goes_on (Start p c) steps s t n q sound tt waits falters) waiting
+    go : ((steps ≡ []) × (t ≡ s)) ⊎ ((c : Command StandardKind) × IsOpenObject want name attrs (variables.values p) c × Falters standard (Start p c) steps s t) → AreWaiting t variables tickets
+    go (inl (none, same)) = subst (λ x. AreWaiting x variables tickets) (sym same) waiting
+    go (inr (c, command, falters)) = moved_waiting s t variables tickets (λ n q waits. falters_goes_on (Start p c) steps s t n q sound tt waits falters) waiting
 
-pub end_untouched : (s t : Space) (words words' : Words) (steps : Steps) (tickets : List ℕ) → (steps ≡ []) × (t ≡ s) × (words' ≡ words) → AreWaiting s words tickets → AreWaiting t words' tickets
-end_untouched s t words words' steps tickets (none, same, left) waiting =
-    same_waiting t words words' tickets (ap (λ (w : Words). w.tickets) left) (subst (λ x. AreWaiting x words tickets) (sym same) waiting)
+pub end_untouched : (s t : Space) (variables variables' : Variables) (steps : Steps) (tickets : List ℕ) → (steps ≡ []) × (t ≡ s) × (variables' ≡ variables) → AreWaiting s variables tickets → AreWaiting t variables' tickets
+end_untouched s t variables variables' steps tickets (none, same, left) waiting =
+    same_waiting t variables variables' tickets (ap (λ (w : Variables). w.tickets) left) (subst (λ x. AreWaiting x variables tickets) (sym same) waiting)
 
-pub end_given_up : (s t : Space) (words words' : Words) (p : ℕ) (word : List ℕ) (steps : Steps) (tickets : List ℕ) → IsSound s → words.tickets p word ≢ 0
-    → GivesUp standard (words.tickets p word) steps s t × (words' ≡ with_ticket words p word 0) → AreWaiting s words tickets → AreWaiting t words' (without (words.tickets p word) tickets)
-end_given_up s t words words' p word steps tickets sound some (gives_up, left) waiting =
-    cleared_waiting s t words words' p word tickets some
-    (subst (λ h. IsSet words.tickets h p word 0) (sym (ap (λ (w : Words). w.tickets) left)) (is_set words.tickets p word 0))
-    (λ n q other waits. gives_up_goes_on (words.tickets p word) steps s t n q sound other waits gives_up) waiting
+pub end_given_up : (s t : Space) (variables variables' : Variables) (p : ℕ) (variable : List ℕ) (steps : Steps) (tickets : List ℕ) → IsSound s → variables.tickets p variable ≢ 0
+    → GivesUp standard (variables.tickets p variable) steps s t × (variables' ≡ with_ticket variables p variable 0) → AreWaiting s variables tickets → AreWaiting t variables' (without (variables.tickets p variable) tickets)
+end_given_up s t variables variables' p variable steps tickets sound some (gives_up, left) waiting =
+    cleared_waiting s t variables variables' p variable tickets some
+    (subst (λ h. IsSet variables.tickets h p variable 0) (sym (ap (λ (w : Variables). w.tickets) left)) (is_set variables.tickets p variable 0))
+    (λ n q other waits. gives_up_goes_on (variables.tickets p variable) steps s t n q sound other waits gives_up) waiting
 
-pub stopped_waiting : (s t : Space) (words words' : Words) (p : ℕ) (line : PendingForm (List ℕ)) (steps : Steps) (tickets : List ℕ) → IsSound s → MakesStep line p words
-    → FindsNone line words p steps s t words' → AreWaiting s words tickets → (left : List ℕ) × AreWaiting t words' left
-stopped_waiting s t words words' p (pending.Begin want name attrs word) steps tickets sound makes h waiting =
-    (tickets, begin_stopped s t words words' p want name attrs word steps tickets sound h waiting)
-stopped_waiting s t words words' p (pending.End word) steps tickets sound makes (inl none) waiting = (tickets, end_untouched s t words words' steps tickets none waiting)
-stopped_waiting s t words words' p (pending.End word) steps tickets sound makes (inr given) waiting =
-    (without (words.tickets p word) tickets, end_given_up s t words words' p word steps tickets sound (end_some words p word makes) given waiting)
-stopped_waiting s t words words' p (pending.Drop word) steps tickets sound makes h waiting = absurd h
+pub stopped_waiting : (s t : Space) (variables variables' : Variables) (p : ℕ) (line : PendingForm (List ℕ)) (steps : Steps) (tickets : List ℕ) → IsSound s → MakesStep line p variables
+    → FindsNone line variables p steps s t variables' → AreWaiting s variables tickets → (left : List ℕ) × AreWaiting t variables' left
+stopped_waiting s t variables variables' p (pending.Begin want name attrs variable) steps tickets sound makes h waiting =
+    (tickets, begin_stopped s t variables variables' p want name attrs variable steps tickets sound h waiting)
+stopped_waiting s t variables variables' p (pending.End variable) steps tickets sound makes (inl none) waiting = (tickets, end_untouched s t variables variables' steps tickets none waiting)
+stopped_waiting s t variables variables' p (pending.End variable) steps tickets sound makes (inr given) waiting =
+    (without (variables.tickets p variable) tickets, end_given_up s t variables variables' p variable steps tickets sound (end_some variables p variable makes) given waiting)
+stopped_waiting s t variables variables' p (pending.Drop variable) steps tickets sound makes h waiting = absurd h
 
 -- where it made its step
-pub carried_waiting : (s t : Space) (words : Words) (p : ℕ) (line : PendingForm (List ℕ)) (event : Event StandardKind) (a : Answer) (tickets : List ℕ) → IsSound s → MakesStep line p words
-    → IsEvent line words p event → Step standard s event a t → AreWaiting s words tickets → (left : List ℕ) × AreWaiting t (words_answered words p (word_of line) a) left
-carried_waiting s t words p (pending.Begin want name attrs word) event a tickets sound makes (c, command, is) step waiting =
-    (with_answer a tickets, begin_waiting s t words p word c a tickets sound (begin_free words p want name attrs word makes) (subst (λ e. Step standard s e a t) is step) waiting)
-carried_waiting s t words p (pending.End word) event a tickets sound makes (parse, ran, is) step waiting =
-    (with_answer a (without (words.tickets p word) tickets), end_waiting s t words p word parse a tickets sound (end_some words p word makes) (subst (λ e. Step standard s e a t) is step) waiting)
-carried_waiting s t words p (pending.Drop word) event (Done reply) tickets sound makes is step waiting = (
-  without (words.tickets p word) tickets,
-  dropped_waiting s t words (words_answered words p word (Done reply)) p word run.Unrun (Done reply) tickets sound (drop_some words p word makes) refl (subst (λ e. Step standard s e (Done reply) t) is step) waiting,
+pub carried_waiting : (s t : Space) (variables : Variables) (p : ℕ) (line : PendingForm (List ℕ)) (event : Event StandardKind) (a : Answer) (tickets : List ℕ) → IsSound s → MakesStep line p variables
+    → IsEvent line variables p event → Step standard s event a t → AreWaiting s variables tickets → (left : List ℕ) × AreWaiting t (variables_answered variables p (variable_of line) a) left
+carried_waiting s t variables p (pending.Begin want name attrs variable) event a tickets sound makes (c, command, is) step waiting =
+    (with_answer a tickets, begin_waiting s t variables p variable c a tickets sound (begin_free variables p want name attrs variable makes) (subst (λ e. Step standard s e a t) is step) waiting)
+carried_waiting s t variables p (pending.End variable) event a tickets sound makes (parse, ran, is) step waiting =
+    (with_answer a (without (variables.tickets p variable) tickets), end_waiting s t variables p variable parse a tickets sound (end_some variables p variable makes) (subst (λ e. Step standard s e a t) is step) waiting)
+carried_waiting s t variables p (pending.Drop variable) event (Done reply) tickets sound makes is step waiting = (
+  without (variables.tickets p variable) tickets,
+  dropped_waiting s t variables (variables_answered variables p variable (Done reply)) p variable run.Unrun (Done reply) tickets sound (drop_some variables p variable makes) refl (subst (λ e. Step standard s e (Done reply) t) is step) waiting,
 )
-carried_waiting s t words p (pending.Drop word) event (Ticket m) tickets sound makes is step waiting =
-    absurd (no_ticket (pending_of s (words.tickets p word)) made.2)
+carried_waiting s t variables p (pending.Drop variable) event (Ticket m) tickets sound makes is step waiting =
+    absurd (no_ticket (pending_of s (variables.tickets p variable)) made.2)
   where
-    made : Step standard s (Abandon (words.tickets p word) run.Unrun) (Ticket m) t
+    made : Step standard s (Abandon (variables.tickets p variable) run.Unrun) (Ticket m) t
     made = subst (λ e. Step standard s e (Ticket m) t) is step
 
-    no_ticket : (found : Option (Pending StandardKind)) → MatchOption found ⊥ (λ x. Abandons standard s x made.0 (Ticket m) t) → ⊥
+    no_ticket : (found : Option (PendingOpen StandardKind)) → MatchOption found ⊥ (λ x. Abandons standard s x made.0 (Ticket m) t) → ⊥
     no_ticket None h = h
     no_ticket (Some x) h = let e : Ticket m ≡ answers Success = h.0 in cc
 
 -- ---- sound states
 
-pub wanting_sound : (s t : Space) (words : Words) (p : ℕ) (request : Request (List ℕ)) (steps : Steps) → IsSound s → WantsMemory request p words steps s t → IsSound t
-wanting_sound s t words p request steps sound (inl (none, same, grows)) = subst IsSound (sym same) sound
-wanting_sound s t words p request steps sound (inr (c, command, falters)) = falters_sound standard (Start p c) steps s t sound falters
+pub wanting_sound : (s t : Space) (variables : Variables) (p : ℕ) (request : Request (List ℕ)) (steps : Steps) → IsSound s → WantsMemory request p variables steps s t → IsSound t
+wanting_sound s t variables p request steps sound (inl (none, same, grows)) = subst IsSound (sym same) sound
+wanting_sound s t variables p request steps sound (inr (c, command, falters)) = falters_sound standard (Start p c) steps s t sound falters
 
-pub stopped_sound : (s t : Space) (words words' : Words) (p : ℕ) (line : PendingForm (List ℕ)) (steps : Steps) → IsSound s → FindsNone line words p steps s t words' → IsSound t
-stopped_sound s t words words' p (pending.Begin want name attrs word) steps sound (inl (none, same), left) = subst IsSound (sym same) sound
-stopped_sound s t words words' p (pending.Begin want name attrs word) steps sound (inr (c, command, falters), left) = falters_sound standard (Start p c) steps s t sound falters
-stopped_sound s t words words' p (pending.End word) steps sound (inl (none, same, left)) = subst IsSound (sym same) sound
-stopped_sound s t words words' p (pending.End word) steps sound (inr (gives_up, left)) = gives_up_sound standard (words.tickets p word) steps s t sound gives_up
-stopped_sound s t words words' p (pending.Drop word) steps sound h = absurd h
+pub stopped_sound : (s t : Space) (variables variables' : Variables) (p : ℕ) (line : PendingForm (List ℕ)) (steps : Steps) → IsSound s → FindsNone line variables p steps s t variables' → IsSound t
+stopped_sound s t variables variables' p (pending.Begin want name attrs variable) steps sound (inl (none, same), left) = subst IsSound (sym same) sound
+stopped_sound s t variables variables' p (pending.Begin want name attrs variable) steps sound (inr (c, command, falters), left) = falters_sound standard (Start p c) steps s t sound falters
+stopped_sound s t variables variables' p (pending.End variable) steps sound (inl (none, same, left)) = subst IsSound (sym same) sound
+stopped_sound s t variables variables' p (pending.End variable) steps sound (inr (gives_up, left)) = gives_up_sound standard (variables.tickets p variable) steps s t sound gives_up
+stopped_sound s t variables variables' p (pending.Drop variable) steps sound h = absurd h
 
 -- at first no open waits
-pub first_waiting : (s : Space) → AreWaiting s first_words []
+pub first_waiting : (s : Space) → AreWaiting s first_variables []
 first_waiting s = record {
-  listed = record { rising = λ i j d before below. absurd (omega (arith, below)); held = All-nil (IsUnderWord first_words.tickets); all = λ p w. inl refl };
+  listed = record { rising = λ i j d before below. absurd (omega (arith, below)); held = All-nil (IsUnderVariable first_variables.tickets); all = λ p w. inl refl };
   theirs = λ p w. inl refl;
   apart = λ p q a b e. inl refl;
 }
 
 -- ---- the parses that are kept
 
-pub unanswered_await : (s t : Space) (words : Words) (p : ℕ) (request : Request (List ℕ)) (steps : Steps) (parses : List (ToRun StandardFace)) → IsSound s
-    → WantsMemory request p words steps s t → AreAwaited s parses → AreAwaited t parses
-unanswered_await s t words p request steps parses sound (inl (none, same, grows)) awaited = subst (λ x. AreAwaited x parses) (sym same) awaited
-unanswered_await s t words p request steps parses sound (inr (c, command, falters)) awaited = falters_all_await standard p c steps s t parses sound falters awaited
+pub unanswered_await : (s t : Space) (variables : Variables) (p : ℕ) (request : Request (List ℕ)) (steps : Steps) (parses : List (ToRun StandardFace)) → IsSound s
+    → WantsMemory request p variables steps s t → AreAwaited s parses → AreAwaited t parses
+unanswered_await s t variables p request steps parses sound (inl (none, same, grows)) awaited = subst (λ x. AreAwaited x parses) (sym same) awaited
+unanswered_await s t variables p request steps parses sound (inr (c, command, falters)) awaited = falters_all_await standard p c steps s t parses sound falters awaited

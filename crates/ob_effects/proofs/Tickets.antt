@@ -1,4 +1,4 @@
--- The tickets of words while opens begin to wait under them, and end.
+-- The tickets of variables while opens begin to wait under them, and end.
 use Rattle.std.proofs.Common.{◌≡◌, ◌≢◌, ◌∙◌, ℕ, suc, ◌<◌, ◌==◌, ◌||◌, Bool, true, false, not, cond, List, [], ◌∷◌, ◌++◌, ◌⊎◌, inl, inr, filter, All, refl, ap, sym, subst, arith, eq-eqb, eqb-true}
 use Rattle.std.specs.List.{AllPairs, list_any}
 use Rattle.std.specs.Str.{bytes_eq}
@@ -7,16 +7,16 @@ use Rattle.std.proofs.lemmas.List.Elements.{All-nil, All-head, All-tail, All-pus
 use Rattle.std.proofs.lemmas.List.Folds.{list_any-append}
 use Rattle.std.proofs.lemmas.List.Kept.{AllPairs-cons, AllPairs-filter}
 use Rattle.std.proofs.lemmas.Slice.Eq.{bytes_eq-Decides}
-use Rattle.ob_effects.specs.Waiting.{AreTickets, IsUnderWord}
+use Rattle.ob_effects.specs.Waiting.{AreTickets, IsUnderVariable}
 use Rattle.ob_effects.specs.Kept.{AreApart}
 
--- a word of a process is this one
-abbrev pub IsWordOf : ℕ → List ℕ → ℕ → List ℕ → Type 0
-IsWordOf process word p w = (process ≡ p) × (bytes_eq word w ≡ true)
+-- a variable of a process is this one
+abbrev pub IsVariableOf : ℕ → List ℕ → ℕ → List ℕ → Type 0
+IsVariableOf process variable p w = (process ≡ p) × (bytes_eq variable w ≡ true)
 
--- that word is set, and the others stay
+-- that variable is set, and the others stay
 abbrev pub IsSet : (f h : ℕ → List ℕ → ℕ) → ℕ → List ℕ → ℕ → Type 0
-IsSet f h process word n = (p : ℕ) (w : List ℕ) → (IsWordOf process word p w × (h p w ≡ n)) ⊎ ((IsWordOf process word p w → ⊥) × (h p w ≡ f p w))
+IsSet f h process variable n = (p : ℕ) (w : List ℕ) → (IsVariableOf process variable p w × (h p w ≡ n)) ⊎ ((IsVariableOf process variable p w → ⊥) × (h p w ≡ f p w))
 
 same_bytes : (a b : List ℕ) → bytes_eq a b ≡ true → a ≡ b
 same_bytes a b e = (bytes_eq-Decides a b).0 e
@@ -24,20 +24,20 @@ same_bytes a b e = (bytes_eq-Decides a b).0 e
 pub bytes_same : (a b : List ℕ) → a ≡ b → bytes_eq a b ≡ true
 bytes_same a b e = (bytes_eq-Decides a b).1 e
 
--- the same word of the same process has the same ticket
-pub its_number : (f : ℕ → List ℕ → ℕ) (process p : ℕ) (word w : List ℕ) → IsWordOf process word p w → f p w ≡ f process word
-its_number f process p word w (same, bytes) = λ i. f (sym same i) (sym (same_bytes word w bytes) i)
+-- the same variable of the same process has the same ticket
+pub its_number : (f : ℕ → List ℕ → ℕ) (process p : ℕ) (variable w : List ℕ) → IsVariableOf process variable p w → f p w ≡ f process variable
+its_number f process p variable w (same, bytes) = λ i. f (sym same i) (sym (same_bytes variable w bytes) i)
 
 other_bytes : (a b c : List ℕ) → bytes_eq a b ≡ true → bytes_eq a c ≡ true → bytes_eq b c ≡ true
 other_bytes a b c e d = bytes_same b c (sym (same_bytes a b e) ∙ same_bytes a c d)
 
--- a word is set by the definition
-pub is_set : (f : ℕ → List ℕ → ℕ) (process : ℕ) (word : List ℕ) (n : ℕ) → IsSet f (λ p. cond (process == p) (λ w. cond (bytes_eq word w) n (f process w)) (f p)) process word n
-is_set f process word n p w = go (process == p) (bytes_eq word w) refl refl
+-- a variable is set by the definition
+pub is_set : (f : ℕ → List ℕ → ℕ) (process : ℕ) (variable : List ℕ) (n : ℕ) → IsSet f (λ p. cond (process == p) (λ w. cond (bytes_eq variable w) n (f process w)) (f p)) process variable n
+is_set f process variable n p w = go (process == p) (bytes_eq variable w) refl refl
   where
-    go : (a b : Bool) → (process == p) ≡ a → bytes_eq word w ≡ b
-        → (IsWordOf process word p w × (cond a (λ w. cond (bytes_eq word w) n (f process w)) (f p) w ≡ n))
-        ⊎ ((IsWordOf process word p w → ⊥) × (cond a (λ w. cond (bytes_eq word w) n (f process w)) (f p) w ≡ f p w))
+    go : (a b : Bool) → (process == p) ≡ a → bytes_eq variable w ≡ b
+        → (IsVariableOf process variable p w × (cond a (λ w. cond (bytes_eq variable w) n (f process w)) (f p) w ≡ n))
+        ⊎ ((IsVariableOf process variable p w → ⊥) × (cond a (λ w. cond (bytes_eq variable w) n (f process w)) (f p) w ≡ f p w))
     go true true e d = inl ((eqb-true process p e, d), ap (λ (b : Bool). cond b n (f process w)) d)
     go true false e d = inr ((λ is. let bad : true ≡ false = sym is.1 ∙ d in cc), ap (λ (b : Bool). cond b n (f process w)) d ∙ ap (λ x. f x w) (eqb-true process p e))
     go false b e d = inr ((λ is. let bad : true ≡ false = sym (eq-eqb process p is.0) ∙ e in cc), refl)
@@ -88,27 +88,27 @@ pairs_pushed n (x ∷ xs) rising below =
     (All-push (λ b. x < b) xs n (λ i d inside. rising 0 (suc i) d (omega arith) (omega (arith, inside))) (All-head (λ x. x < n) x xs below))
     (pairs_pushed n xs (λ i j d before inside. rising (suc i) (suc j) d (omega (arith, before)) (omega (arith, inside))) (All-tail (λ x. x < n) x xs below))
 
-module _ (f h : ℕ → List ℕ → ℕ) (process : ℕ) (word : List ℕ) where
-  -- an open waits no longer under a word
-  module _ (n : ℕ) (there : f process word ≡ n) (some : n ≢ 0) (set : IsSet f h process word 0) (apart : AreApart f) where
-    -- a word that stays has another ticket
-    pub stays_other : (p : ℕ) (w : List ℕ) → (IsWordOf process word p w → ⊥) → f p w ≢ n
-    stays_other p w other same = elim (apart process p word w (there ∙ sym same)) as (λ x. ⊥) [
+module _ (f h : ℕ → List ℕ → ℕ) (process : ℕ) (variable : List ℕ) where
+  -- an open waits no longer under a variable
+  module _ (n : ℕ) (there : f process variable ≡ n) (some : n ≢ 0) (set : IsSet f h process variable 0) (apart : AreApart f) where
+    -- a variable that stays has another ticket
+    pub stays_other : (p : ℕ) (w : List ℕ) → (IsVariableOf process variable p w → ⊥) → f p w ≢ n
+    stays_other p w other same = elim (apart process p variable w (there ∙ sym same)) as (λ x. ⊥) [
       | inl none ↦ some (sym there ∙ none)
       | inr is ↦ other is
     ]
 
-    still_held : (m : ℕ) → IsUnderWord f m → not (m == n) ≡ true → IsUnderWord h m
+    still_held : (m : ℕ) → IsUnderVariable f m → not (m == n) ≡ true → IsUnderVariable h m
     still_held m (is, (p, w, e)) differs = go (set p w)
       where
-        go : (IsWordOf process word p w × (h p w ≡ 0)) ⊎ ((IsWordOf process word p w → ⊥) × (h p w ≡ f p w)) → IsUnderWord h m
+        go : (IsVariableOf process variable p w × (h p w ≡ 0)) ⊎ ((IsVariableOf process variable p w → ⊥) × (h p w ≡ f p w)) → IsUnderVariable h m
         go (inl (same, none)) =
-            let one : m ≡ n = sym e ∙ (its_number f process p word w same ∙ there) in
+            let one : m ≡ n = sym e ∙ (its_number f process p variable w same ∙ there) in
             let bad : not true ≡ true = sym (ap not (eq-eqb m n one)) ∙ differs in cc
         go (inr (other, same)) = (is, (p, w, same ∙ e))
 
     still_listed : (tickets : List ℕ) (p : ℕ) (w : List ℕ) → (f p w ≡ 0) ⊎ (list_any (λ k. k == f p w) tickets ≡ true)
-        → (IsWordOf process word p w × (h p w ≡ 0)) ⊎ ((IsWordOf process word p w → ⊥) × (h p w ≡ f p w))
+        → (IsVariableOf process variable p w × (h p w ≡ 0)) ⊎ ((IsVariableOf process variable p w → ⊥) × (h p w ≡ f p w))
         → (h p w ≡ 0) ⊎ (list_any (λ k. k == h p w) (filter (λ k. not (k == n)) tickets) ≡ true)
     still_listed tickets p w is (inl (same, none)) = inl none
     still_listed tickets p w (inl none) (inr (other, same)) = inl (same ∙ none)
@@ -119,7 +119,7 @@ module _ (f h : ℕ → List ℕ → ℕ) (process : ℕ) (word : List ℕ) wher
     cleared_listed tickets listed = record {
       rising = AllPairs-filter (λ a b. a < b) (λ k. not (k == n)) tickets listed.rising;
       held = λ i d inside.
-          still_held _ (All-filter (λ k. not (k == n)) (IsUnderWord f) tickets listed.held i d inside) (filter_passes (λ k. not (k == n)) tickets i d inside);
+          still_held _ (All-filter (λ k. not (k == n)) (IsUnderVariable f) tickets listed.held i d inside) (filter_passes (λ k. not (k == n)) tickets i d inside);
       all = λ p w. still_listed tickets p w (listed.all p w) (set p w);
     }
 
@@ -127,7 +127,7 @@ module _ (f h : ℕ → List ℕ → ℕ) (process : ℕ) (word : List ℕ) wher
     cleared_apart p q a b e = go (set p a) (set q b)
       where
         Set : ℕ → List ℕ → Type 0
-        Set p w = (IsWordOf process word p w × (h p w ≡ 0)) ⊎ ((IsWordOf process word p w → ⊥) × (h p w ≡ f p w))
+        Set p w = (IsVariableOf process variable p w × (h p w ≡ 0)) ⊎ ((IsVariableOf process variable p w → ⊥) × (h p w ≡ f p w))
 
         go : Set p a → Set q b → (h p a ≡ 0) ⊎ ((p ≡ q) × (bytes_eq a b ≡ true))
         go (inl (is, none)) k = inl none
@@ -137,30 +137,30 @@ module _ (f h : ℕ → List ℕ → ℕ) (process : ℕ) (word : List ℕ) wher
           | inr is ↦ inr is
         ]
 
-  -- an open begins to wait under a word under which none waits
-  module _ (n : ℕ) (free : f process word ≡ 0) (some : n ≢ 0) (set : IsSet f h process word n) where
+  -- an open begins to wait under a variable under which none waits
+  module _ (n : ℕ) (free : f process variable ≡ 0) (some : n ≢ 0) (set : IsSet f h process variable n) where
     other_stays : (m p : ℕ) (w : List ℕ) → m ≢ 0 → f p w ≡ m → h p w ≡ m
     other_stays m p w is e = elim (set p w) as (λ x. h p w ≡ m) [
-      | inl (same, set) ↦ absurd (is (sym e ∙ (its_number f process p word w same ∙ free)))
+      | inl (same, set) ↦ absurd (is (sym e ∙ (its_number f process p variable w same ∙ free)))
       | inr (other, same) ↦ same ∙ e
     ]
 
-    is_set_itself : h process word ≡ n
-    is_set_itself = elim (set process word) as (λ x. h process word ≡ n) [
+    is_set_itself : h process variable ≡ n
+    is_set_itself = elim (set process variable) as (λ x. h process variable ≡ n) [
       | inl (same, set) ↦ set
-      | inr (other, same) ↦ absurd (other (refl, bytes_same word word refl))
+      | inr (other, same) ↦ absurd (other (refl, bytes_same variable variable refl))
     ]
 
     pub begun_listed : (tickets : List ℕ) → All (λ k. k < n) tickets → AreTickets f tickets → AreTickets h (tickets ++ n ∷ [])
     begun_listed tickets below listed = record {
       rising = pairs_pushed n tickets listed.rising below;
-      held = All-push (IsUnderWord h) tickets n
-          (λ i d inside. let one = listed.held i d inside in (one.0, (one.1.0, one.1.1, other_stays _ one.1.0 one.1.1 one.0 one.1.2))) (some, (process, word, is_set_itself));
+      held = All-push (IsUnderVariable h) tickets n
+          (λ i d inside. let one = listed.held i d inside in (one.0, (one.1.0, one.1.1, other_stays _ one.1.0 one.1.1 one.0 one.1.2))) (some, (process, variable, is_set_itself));
       all = λ p w. among p w (listed.all p w) (set p w);
     }
       where
         among : (p : ℕ) (w : List ℕ) → (f p w ≡ 0) ⊎ (list_any (λ k. k == f p w) tickets ≡ true)
-            → (IsWordOf process word p w × (h p w ≡ n)) ⊎ ((IsWordOf process word p w → ⊥) × (h p w ≡ f p w))
+            → (IsVariableOf process variable p w × (h p w ≡ n)) ⊎ ((IsVariableOf process variable p w → ⊥) × (h p w ≡ f p w))
             → (h p w ≡ 0) ⊎ (list_any (λ k. k == h p w) (tickets ++ n ∷ []) ≡ true)
         among p w is (inl (same, set)) = inr (subst (λ m. list_any (λ k. k == m) (tickets ++ n ∷ []) ≡ true) (sym set) (any_last n tickets))
         among p w (inl none) (inr (other, same)) = inl (same ∙ none)
@@ -170,7 +170,7 @@ module _ (f h : ℕ → List ℕ → ℕ) (process : ℕ) (word : List ℕ) wher
     begun_apart tickets below listed apart p q a b e = go (set p a) (set q b)
       where
         Set : ℕ → List ℕ → Type 0
-        Set p w = (IsWordOf process word p w × (h p w ≡ n)) ⊎ ((IsWordOf process word p w → ⊥) × (h p w ≡ f p w))
+        Set p w = (IsVariableOf process variable p w × (h p w ≡ n)) ⊎ ((IsVariableOf process variable p w → ⊥) × (h p w ≡ f p w))
 
         new : (p : ℕ) (w : List ℕ) → f p w ≡ n → ⊥
         new p w same = elim (listed.all p w) as (λ x. ⊥) [
@@ -179,7 +179,7 @@ module _ (f h : ℕ → List ℕ → ℕ) (process : ℕ) (word : List ℕ) wher
         ]
 
         go : Set p a → Set q b → (h p a ≡ 0) ⊎ ((p ≡ q) × (bytes_eq a b ≡ true))
-        go (inl (is, set)) (inl (is_too, set_too)) = inr (sym is.0 ∙ is_too.0, other_bytes word a b is.1 is_too.1)
+        go (inl (is, set)) (inl (is_too, set_too)) = inr (sym is.0 ∙ is_too.0, other_bytes variable a b is.1 is_too.1)
         go (inl (is, set)) (inr (other, same)) = absurd (new q b (sym same ∙ (sym e ∙ set)))
         go (inr (other, same)) (inl (is, set)) = absurd (new p a (sym same ∙ (e ∙ set)))
         go (inr (other, same)) (inr (other_too, same_too)) = elim (apart p q a b (sym same ∙ (e ∙ same_too))) as (λ x. (h p a ≡ 0) ⊎ ((p ≡ q) × (bytes_eq a b ≡ true))) [

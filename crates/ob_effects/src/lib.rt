@@ -1,4 +1,4 @@
-//! The effects of a line of a script: the steps that it makes of the namespace, its reply, and the words after it.
+//! The effects of a line of a script: the steps that it makes of the namespace, its reply, and the variables after it.
 #![tactic(auto)]
 
 mod asking;

@@ -3,9 +3,9 @@
 ghost use Rattle.std.specs.Prelude.{◌≡◌, IfOk, OnErr, IfSome};
 ghost use Rattle.ob_lines.specs.Grammar.{HasTexts, FormHasTexts, form_seen, request_seen};
 ghost use Rattle.ob_lines.specs.Script.{found_seen};
-ghost use Rattle.ob_requests.specs.Tables.{words_in};
+ghost use Rattle.ob_requests.specs.Tables.{variables_in};
 ghost use Rattle.ob_effects.specs.Effects.{FoundMemory, IsAnswered, IsLineWithoutMemory, IsUnanswered, IsRequestDone, IsDone, TakesNone};
-ghost use Rattle.ob_effects.specs.Kept.{IsFirst, IsSession, space_of, words_of};
+ghost use Rattle.ob_effects.specs.Kept.{IsFirst, IsSession, space_of, variables_of};
 ghost use Rattle.ob_effects.specs.Waiting.{Steps, GiveAllUp};
 
 use crate::asking::{ask, begin_child};
@@ -13,18 +13,18 @@ use crate::outcome::LineOutcome;
 use ob_base::Proc;
 use ob_lines::{Change, Form, Request, change_of};
 use ob_model::Reply;
-use ob_requests::Words;
+use ob_requests::Variables;
 use ob_standard_core::{StandardCore, StandardWaits};
 use std::alloc::{AllocError, Global};
 
-/// A script's session with a namespace over the standard set of types: the namespace, the words of the script, and
-/// the opens that wait under its words. It can't be dropped: what waits is given up at its [end](Session::end).
+/// A script's session with a namespace over the standard set of types: the namespace, the variables of the script, and
+/// the opens that wait under its variables. It can't be dropped: what waits is given up at its [end](Session::end).
 ///
-/// A contract sees the words by `words_of`, the state of the abstract machine by `space_of`, and what holds of both
+/// A contract sees the variables by `variables_of`, the state of the abstract machine by `space_of`, and what holds of both
 /// and of the opens that wait as `IsSession`. (this profile)
 pub struct Session {
     pub(crate) core: StandardCore,
-    pub(crate) words: Words,
+    pub(crate) variables: Variables,
     pub(crate) waits: StandardWaits,
 }
 
@@ -36,9 +36,13 @@ impl Session {
         ensures kept { IfOk result IsSession }
     {
         let core = StandardCore::new(alloc)?;
-        let words = Words::new(alloc)?;
+        let variables = Variables::new(alloc)?;
         let waits = StandardWaits::new(alloc);
-        Ok(Session { core, words, waits })
+        Ok(Session {
+            core,
+            variables,
+            waits,
+        })
     }
 
     /// Does what a line of this form says; none: a line that is no script line, which does nothing. Every growth
@@ -48,8 +52,8 @@ impl Session {
         requires kept { IsSession self.old }
         requires texts { IfSome form (λ form. FormHasTexts (form_seen form)) }
         ensures kept { IsSession self.new }
-        ensures done { IsDone (found_seen form.entry) (words_of self.old) (space_of self.old) result
-            (words_of self.new) (space_of self.new) }
+        ensures done { IsDone (found_seen form.entry) (variables_of self.old) (space_of self.old) result
+            (variables_of self.new) (space_of self.new) }
         ensures without_memory { IsLineWithoutMemory (found_seen form.entry) → FoundMemory result }
     {
         match &form {
@@ -57,11 +61,11 @@ impl Session {
             Some(Form::Nothing) => LineOutcome::Idle,
             Some(Form::Stat) => LineOutcome::Counted(self.core.counts()),
             Some(Form::Asks { process, request }) => {
-                let process = self.words.process_of(process);
+                let process = self.variables.process_of(process);
                 self.answer(process, request)
             }
             Some(Form::Waits { process, pending }) => {
-                let process = self.words.process_of(process);
+                let process = self.variables.process_of(process);
                 self.carry_on(process, *pending)
             }
         }
@@ -71,11 +75,11 @@ impl Session {
     /// profile)
     pub fn end(self)
         requires { IsSession self }
-        ensures { (steps : Steps) × GiveAllUp (words_of self) (space_of self) steps }
+        ensures { (steps : Steps) × GiveAllUp (variables_of self) (space_of self) steps }
     {
         let Session {
             mut core,
-            words: _,
+            variables: _,
             waits,
         } = self;
         waits.give_all_up(&mut core);
@@ -86,46 +90,46 @@ impl Session {
         requires kept { IsSession self.old }
         requires texts { HasTexts (request_seen request.now) }
         ensures kept { IsSession self.new }
-        ensures done { IsRequestDone (request_seen request.now) process (words_of self.old)
-            (space_of self.old) result (words_of self.new) (space_of self.new) }
+        ensures done { IsRequestDone (request_seen request.now) process (variables_of self.old)
+            (space_of self.old) result (variables_of self.new) (space_of self.new) }
         ensures without_memory { TakesNone (request_seen request.now) → FoundMemory result }
     {
         self.core.state_is_sound();
-        match reply_to(&mut self.core, &mut self.words, process, request) {
+        match reply_to(&mut self.core, &mut self.variables, process, request) {
             Ok(reply) => LineOutcome::Replied(reply),
             Err(_) => LineOutcome::NoMemory,
         }
     }
 }
 
-// Runs the request of a process, and changes the words that its reply changes. All that can need memory
+// Runs the request of a process, and changes the variables that its reply changes. All that can need memory
 // comes before the step.
 fn reply_to(
     core: &mut StandardCore,
-    words: &mut Words,
+    variables: &mut Variables,
     process: Proc,
     request: &Request<&[u8]>,
 ) -> Result<Reply, AllocError>
     requires { HasTexts (request_seen request.now) }
     ensures answered { IfOk result (λ reply.
-        IsAnswered (request_seen request.now) process (words_in words.old) core.old
-        reply (words_in words.new) core.new) }
+        IsAnswered (request_seen request.now) process (variables_in variables.old) core.old
+        reply (variables_in variables.new) core.new) }
     ensures wanting { OnErr result (IsUnanswered (request_seen request.now) process
-        (words_in words.old) core.old core.new) }
-    ensures kept { OnErr result (words_in words.new ≡ words_in words.old) }
+        (variables_in variables.old) core.old core.new) }
+    ensures kept { OnErr result (variables_in variables.new ≡ variables_in variables.old) }
 {
     let change = change_of(request);
-    words.make_room(process, change)?;
+    variables.make_room(process, change)?;
     if let Change::SetsProcess {
         process: child,
         inherit,
     } = change
     {
-        return begin_child(core, words, process, request, child, inherit);
+        return begin_child(core, variables, process, request, child, inherit);
     }
-    match ask(core, words, process, request) {
+    match ask(core, variables, process, request) {
         Ok(reply) => {
-            words.apply(process, change, &reply);
+            variables.apply(process, change, &reply);
             Ok(reply)
         }
         Err(fault) => Err(fault),

@@ -1,6 +1,6 @@
 //! The requests of processes.
 
-use crate::names::{Name, Path};
+use crate::names::{FlatName, FlatPath};
 
 /// A flag: children of the process inherit the handle.
 pub const INHERIT: u32 = 0x2;
@@ -28,7 +28,7 @@ pub const LARGEST_ROOM: u32 = 1_048_576;
 
 /// The type of an object.
 #[derive(Clone, Copy)]
-pub enum Kind {
+pub enum FlatKind {
     /// An object directory.
     Directory,
     /// A symbolic link.
@@ -48,7 +48,7 @@ pub enum Kind {
 /// Which page of a directory is asked for. Where it doesn't begin with the first entry, it begins after the last page that the process was
 /// shown of any directory.
 #[derive(Clone, Copy)]
-pub struct Part {
+pub struct FlatPart {
     /// How many bytes it may take.
     pub room: u32,
     /// Whether one entry is asked for and no more.
@@ -74,7 +74,7 @@ pub enum Deed {
     /// The path of its object is asked for.
     Name,
     /// A page of the directory that it leads to is asked for.
-    List(Part),
+    List(FlatPart),
     /// A process gets another handle to its object.
     Duplicate {
         /// The number of that process.
@@ -90,22 +90,22 @@ pub enum Ask {
     /// An object is made.
     Make {
         /// Its type.
-        of: Kind,
+        of: FlatKind,
         /// The target of a link.
-        target: Path,
+        target: FlatPath,
         /// The value of the handle to the shadow of a directory; none where it is made without a shadow.
         shadow: Option<u32>,
         /// Its name; none where it is made without one.
-        name: Option<Name>,
+        name: Option<FlatName>,
         /// Its flags, lawful or not.
         attrs: u32,
     },
     /// An object is opened by its name.
     Open {
         /// The type that it must have; none where it may have any.
-        want: Option<Kind>,
+        want: Option<FlatKind>,
         /// Its name.
-        name: Name,
+        name: FlatName,
         /// The flags, lawful or not.
         attrs: u32,
     },
@@ -144,7 +144,7 @@ impl Waiting {
 }
 
 /// Whether an object of a type is what an open wants.
-pub(crate) fn is_wanted(of: Kind, want: Option<Kind>) -> bool {
+pub(crate) fn is_wanted(of: FlatKind, want: Option<FlatKind>) -> bool {
     match want {
         Some(wanted) => of as u8 == wanted as u8,
         None => true,
@@ -152,14 +152,14 @@ pub(crate) fn is_wanted(of: Kind, want: Option<Kind>) -> bool {
 }
 
 /// The name of a type.
-pub(crate) fn type_name(of: Kind) -> &'static str {
+pub(crate) fn type_name(of: FlatKind) -> &'static str {
     match of {
-        Kind::Directory => "Directory",
-        Kind::Link => "SymbolicLink",
-        Kind::Event => "Event",
-        Kind::Mutant => "Mutant",
-        Kind::Section => "Section",
-        Kind::Device => "Device",
-        Kind::File => "File",
+        FlatKind::Directory => "Directory",
+        FlatKind::Link => "SymbolicLink",
+        FlatKind::Event => "Event",
+        FlatKind::Mutant => "Mutant",
+        FlatKind::Section => "Section",
+        FlatKind::Device => "Device",
+        FlatKind::File => "File",
     }
 }

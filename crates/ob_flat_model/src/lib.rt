@@ -8,8 +8,8 @@ mod model;
 mod names;
 
 pub use asks::{
-    Ask, CASE_INSENSITIVE, Deed, EXCLUSIVE, INHERIT, Kind, LARGEST_ROOM, OPENIF, OPENLINK,
-    PERMANENT, Part, Waiting,
+    Ask, CASE_INSENSITIVE, Deed, EXCLUSIVE, FlatKind, FlatPart, INHERIT, LARGEST_ROOM, OPENIF,
+    OPENLINK, PERMANENT, Waiting,
 };
-pub use model::{Model, Object};
-pub use names::{Name, Path, text};
+pub use model::{FlatObject, Model};
+pub use names::{FlatName, FlatPath, text};

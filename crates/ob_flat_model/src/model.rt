@@ -5,8 +5,8 @@ mod answers;
 mod lookup;
 mod pages;
 
-use crate::asks::{Ask, Deed, EXCLUSIVE, INHERIT, Kind, PERMANENT, Waiting, is_wanted};
-use crate::names::{Name, Path, joined, text};
+use crate::asks::{Ask, Deed, EXCLUSIVE, FlatKind, INHERIT, PERMANENT, Waiting, is_wanted};
+use crate::names::{FlatName, FlatPath, joined, text};
 use ob_base::{Handle, Status};
 use ob_model::{Given, Reply};
 use ob_runner::Begun;
@@ -19,7 +19,7 @@ const ROOT: u32 = 1;
 const GLOBAL: u32 = 2;
 
 // The path `\??`, to which `\DosDevices` leads.
-const VIEW_PATH: Path = Path {
+const VIEW_PATH: FlatPath = FlatPath {
     way: b"?",
     last: None,
 };
@@ -33,12 +33,12 @@ struct Spot {
 
 /// An object.
 #[derive(Clone, Copy)]
-pub struct Object {
+pub struct FlatObject {
     /// Its number, which rises in the order of making, from 1.
     pub number: u32,
-    of: Kind,
+    of: FlatKind,
     // That of a link.
-    target: Path,
+    target: FlatPath,
     // The number of a directory's shadow.
     shadow: Option<u32>,
     spot: Option<Spot>,
@@ -81,7 +81,7 @@ struct Live {
 enum Answer {
     Refused(Status),
     New(Option<Spot>),
-    Found(Object, Status),
+    Found(FlatObject, Status),
     Done,
     Waits(bool),
 }
@@ -90,7 +90,7 @@ enum Answer {
 #[derive(Drop)]
 pub struct Model {
     alloc: Global,
-    objects: Vec<Object>,
+    objects: Vec<FlatObject>,
     handles: Vec<Open>,
     processes: Vec<Live>,
     waiting: Vec<Waiting>,
@@ -120,12 +120,12 @@ impl Model {
 
     // The first objects and the first process.
     fn fill(&mut self) -> Result<(), AllocError> {
-        self.add(ROOT, Kind::Directory, VIEW_PATH, None, None, PERMANENT)?;
+        self.add(ROOT, FlatKind::Directory, VIEW_PATH, None, None, PERMANENT)?;
         for letter in b"GLDNS".as_slice() {
             let letter = *letter;
             let of = match letter {
-                b'L' => Kind::Link,
-                _ => Kind::Directory,
+                b'L' => FlatKind::Link,
+                _ => FlatKind::Directory,
             };
             let (number, directory) = (self.last_object.wrapping_add(1), ROOT);
             self.add(
@@ -173,7 +173,7 @@ impl Model {
         }
     }
 
-    fn numbered(&self, number: u32) -> Option<Object> {
+    fn numbered(&self, number: u32) -> Option<FlatObject> {
         for object in &self.objects {
             if object.number == number {
                 return Some(*object);
@@ -183,7 +183,7 @@ impl Model {
     }
 
     /// The object that a handle of a process leads to. The low two bits of its value don't count.
-    pub fn behind(&self, process: u32, value: u32) -> Option<Object> {
+    pub fn behind(&self, process: u32, value: u32) -> Option<FlatObject> {
         for open in &self.handles {
             if open.process == process && open.value == value & !3 {
                 return self.numbered(open.object);
@@ -203,7 +203,7 @@ impl Model {
     }
 
     /// The value of the first handle from a place on of a process to what is wanted.
-    pub fn value_from(&self, place: usize, process: u32, want: Option<Kind>) -> Option<u32> {
+    pub fn value_from(&self, place: usize, process: u32, want: Option<FlatKind>) -> Option<u32> {
         for open in self.handles.get(place..)? {
             if let Some(object) = self.numbered(open.object)
                 && open.process == process
@@ -225,7 +225,7 @@ impl Model {
         Some(self.processes.get(place)?.number)
     }
 
-    /// Where its lists lie.
+    /// Where its lists are.
     pub fn alloc(&self) -> Global {
         self.alloc
     }
@@ -284,7 +284,7 @@ impl Model {
             return Ok(false);
         };
         if waiting.is_there {
-            self.add(waiting.number, Kind::File, VIEW_PATH, None, None, 0)?;
+            self.add(waiting.number, FlatKind::File, VIEW_PATH, None, None, 0)?;
         }
         let answer = self.end_of(waiting);
         self.agrees(waiting.process, waiting.ask, answer, reply)
@@ -353,7 +353,7 @@ impl Model {
         &mut self,
         process: u32,
         value: u32,
-        object: Object,
+        object: FlatObject,
         deed: Deed,
         given: &Given,
     ) -> Result<bool, AllocError> {
@@ -369,13 +369,13 @@ impl Model {
     }
 
     // Whether the target or the path of an object is given.
-    fn tells(&self, object: Object, deed: Deed, given: &Given) -> Result<bool, AllocError> {
+    fn tells(&self, object: FlatObject, deed: Deed, given: &Given) -> Result<bool, AllocError> {
         let Given::Text(bytes) = given else {
             return Ok(false);
         };
         let (root, path) = (None, object.target);
         let text = match deed {
-            Deed::Target => text(self.alloc, Name { root, path })?,
+            Deed::Target => text(self.alloc, FlatName { root, path })?,
             _ => self.path(object)?,
         };
         Ok(bytes.as_slice() == text.as_slice())
@@ -390,15 +390,15 @@ impl Model {
     fn add(
         &mut self,
         number: u32,
-        of: Kind,
-        target: Path,
+        of: FlatKind,
+        target: FlatPath,
         shadow: Option<u32>,
         spot: Option<Spot>,
         attrs: u32,
-    ) -> Result<Object, AllocError> {
+    ) -> Result<FlatObject, AllocError> {
         self.last_object = self.last_object.max(number);
         self.last_stamp = self.last_stamp.wrapping_add(u64::from(spot.is_some()));
-        let object = Object {
+        let object = FlatObject {
             number,
             of,
             target,
@@ -419,7 +419,7 @@ impl Model {
     fn hold(
         &mut self,
         process: u32,
-        object: Object,
+        object: FlatObject,
         inherit: bool,
         given: &Given,
     ) -> Result<bool, AllocError> {
@@ -508,7 +508,7 @@ impl Model {
     }
 
     // The path of an object: the empty text, where it or a directory above it has no name.
-    fn path(&self, object: Object) -> Result<Vec<u8>, AllocError> {
+    fn path(&self, object: FlatObject) -> Result<Vec<u8>, AllocError> {
         let (mut letters, mut at) = (Vec::new(self.alloc), Some(object));
         for _ in &self.objects {
             if let Some(object) = at
@@ -545,12 +545,12 @@ impl Model {
     }
 
     // Whether the name of an object stays.
-    fn keeps_name(&self, object: Object) -> bool {
+    fn keeps_name(&self, object: FlatObject) -> bool {
         object.spot.is_some() && (object.is_permanent || self.is_held(object.number, 0))
     }
 
     // Whether an object stays: by itself, or as the shadow of a directory that stays by itself.
-    fn keeps(&self, object: Object) -> bool {
+    fn keeps(&self, object: FlatObject) -> bool {
         let mut keeps = self.keeps_itself(object);
         for other in &self.objects {
             if other.shadow == Some(object.number) {
@@ -561,7 +561,7 @@ impl Model {
     }
 
     // Whether an object stays by itself.
-    fn keeps_itself(&self, object: Object) -> bool {
+    fn keeps_itself(&self, object: FlatObject) -> bool {
         let number = object.number;
         let mut keeps = number == ROOT
             || number == GLOBAL
@@ -582,6 +582,6 @@ impl Model {
 }
 
 // Whether objects of a kind are the set's.
-fn is_of_set(of: Kind) -> bool {
-    !matches!(of, Kind::Directory | Kind::Link)
+fn is_of_set(of: FlatKind) -> bool {
+    !matches!(of, FlatKind::Directory | FlatKind::Link)
 }

@@ -4,7 +4,7 @@ use std::alloc::{AllocError, Global};
 
 /// A path. A letter that means no component by itself is `??`.
 #[derive(Clone, Copy)]
-pub struct Path {
+pub struct FlatPath {
     /// The letters of the components before the last.
     pub way: &'static [u8],
     /// That of the last, where there is one.
@@ -13,15 +13,15 @@ pub struct Path {
 
 /// A name that commands have.
 #[derive(Clone, Copy)]
-pub struct Name {
+pub struct FlatName {
     /// The value of the handle to whose object it is relative; none where it is absolute.
     pub root: Option<u32>,
     /// Its path.
-    pub path: Path,
+    pub path: FlatPath,
 }
 
 /// The letters of all components of a path.
-pub(crate) fn letters(alloc: Global, path: Path) -> Result<Vec<u8>, AllocError> {
+pub(crate) fn letters(alloc: Global, path: FlatPath) -> Result<Vec<u8>, AllocError> {
     let mut letters = path.way.to_vec(alloc)?;
     if let Some(last) = path.last {
         letters.push(last)?;
@@ -66,7 +66,7 @@ pub(crate) fn joined(alloc: Global, letters: &[u8]) -> Result<Vec<u8>, AllocErro
 }
 
 /// The text of a name: no backslash is before a relative one. The only error is out of memory.
-pub fn text(alloc: Global, name: Name) -> Result<Vec<u8>, AllocError> {
+pub fn text(alloc: Global, name: FlatName) -> Result<Vec<u8>, AllocError> {
     let letters = letters(alloc, name.path)?;
     let text = joined(alloc, letters.as_slice())?;
     match name.root {

@@ -6,3 +6,10 @@ mod Listed
 mod Lowered
 mod Zeros
 mod Counted
+pub mod SlabLists
+pub mod SlabPlaces
+pub mod Stale
+pub mod SlabTables
+pub mod Inside
+pub mod Foreign
+pub mod Later

@@ -2,3 +2,6 @@ pub mod Table
 pub mod Indexed
 pub mod Laws
 pub mod Counts
+pub mod Openings
+pub mod Kept
+pub mod Values

@@ -8,11 +8,15 @@ mod counts;
 mod free;
 pub mod laws;
 mod open_table;
+mod openings;
 mod places;
+mod slab_table;
 mod table;
 mod touched;
+mod values;
 
 pub use counts::Counts;
 pub use open_table::OpenTable;
+pub use slab_table::SlabTable;
 pub use table::{HandleTable, MOST_HANDLES};
 pub use touched::Touched;

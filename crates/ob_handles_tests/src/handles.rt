@@ -4,9 +4,8 @@
 ghost use Rattle.std.specs.Prelude.{◌<◌, All};
 
 use ob_base::{Handle, ObjId, Proc};
-use ob_handles::{HandleTable, OpenTable};
+use ob_handles::{HandleTable, OpenTable, SlabTable};
 use ob_model::Held;
-use ob_slab_table::SlabTable;
 use std::alloc::Global;
 
 const PROCESS: Proc = Proc(1);

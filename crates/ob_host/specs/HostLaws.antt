@@ -2,7 +2,7 @@
 use Rattle.std.proofs.Common.{◌≡◌, ◌≢◌, ℕ, zero, suc, ◌<◌, Bool, true, false, ◌==◌, if◌then◌else◌, List, [], ◌∷◌, Option, None, Some, length, refl, ap, arith}
 use Rattle.ob_model.specs.Procedures.{Itself, Front, FrontIsUsed, ItselfIsAtEnd, ParsedIsIdle, OwnFaceIsSame, SameFacesAnswerAlike}
 use Rattle.std.proofs.lemmas.Bool.{eqb-true}
-use Rattle.ob_drains.specs.Unnoticed.{IsUnnoticed}
+use Rattle.ob_types.specs.Unnoticed.{IsUnnoticed}
 use Rattle.ob_host.specs.Deletions.{Deletions, Keeps, Passes, with_delete, after_next, behind_next}
 use Rattle.ob_host.specs.declared.deletion.HostDeletion.{HostDeletion}
 use Rattle.ob_host.specs.Kept.{Kept}

@@ -13,9 +13,8 @@ ghost use Rattle.ob_host.specs.HostLaws.{host_front, host_itself, host_parsed_id
 use crate::args::{text_of, user_data_of};
 use crate::chain::Chain;
 use crate::{HostDeletion, HostInner, HostObject, Kind};
-use ob_drains::Drains;
 use ob_model::Bytes;
-use ob_types::{ParseAnswer, Reason, Refusal, TypeSet};
+use ob_types::{Drains, ParseAnswer, Reason, Refusal, TypeSet};
 use std::alloc::{AllocError, Global};
 use std::marker::Model;
 use std::mem;

@@ -1,2 +1,5 @@
-pub mod Escaped
-pub mod Values
+pub mod Runs
+pub mod SoFar
+pub mod Choosing
+pub mod Turns
+pub mod Cut

@@ -1,3 +1,3 @@
-pub mod Segments
-pub mod Lines
-pub mod Words
+pub mod Journal
+pub mod Played
+pub mod Verdict

@@ -1,27 +1,22 @@
-//! The journal of a namespace: its entries, and the lines that they are written as.
-//!
-//! An [`Entry`] is one event of a history with its number, the seat whose caller asked, and how it ended. Contracts see it
-//! as the entry of a run of the abstract machine, so that a list of entries may be a run. A [`Segment`] is what follows
-//! one header of a journal. Entries are compared by [`is_same_entry`], what they are made of is copied by
-//! [`copy_command`] and [`copy_reply`], and [`write_header`] and [`write_line`] write the lines of a journal.
-//! [`Operation`] and [`word_of_parse`] have the words that lines are made of, and [`Operation::from_word`] and
-//! [`parse_of_word`] what a word means.
+//! The checker of journals: whether the lines of one are those of a run. A journal is read whole and checked, and the
+//! verdict is written in a line.
 #![tactic(auto)]
 
-mod alike;
-mod copies;
-mod entry;
-mod lines;
-mod members;
-mod replies;
-mod segment;
-mod steps;
-mod texts;
-mod words;
+mod check;
+mod choice;
+mod laws;
+mod position;
+mod replay;
+mod report;
+mod run;
+mod verdict;
 
-pub use alike::is_same_entry;
-pub use copies::{copy_command, copy_reply};
-pub use entry::Entry;
-pub use lines::{write_header, write_line};
-pub use segment::Segment;
-pub use words::{Operation, parse_of_word, word_of_parse};
+pub use check::check_journal;
+pub use laws::{
+    what_is_told_is_counted, what_is_told_is_in_segments, what_stops_is_no_run,
+    what_stops_is_refused,
+};
+pub use ob_entries::{Entry, write_header, write_line};
+pub use report::{Cause, CheckFault, Report};
+pub use run::{JOURNAL_LIMIT, run_replay};
+pub use verdict::{Verdict, write_verdict};

@@ -10,7 +10,7 @@ use Rattle.ob_model.specs.declared.reply.Answer.{Answer}
 use Rattle.ob_model.specs.declared.reply.Answer.TheVariants.{Ticket}
 use Rattle.ob_model.specs.declared.reply.Given.TheVariants.{Handle}
 use Rattle.ob_model.specs.declared.state.Body.{Body}
-use Rattle.ob_model.specs.declared.state.Pending.{Pending}
+use Rattle.ob_model.specs.declared.state.PendingOpen.{PendingOpen}
 use Rattle.ob_model.specs.declared.state.Wanted.{Wanted}
 use Rattle.ob_model.specs.State.{State, is_live, handle_count}
 use Rattle.ob_model.specs.declared.terms.Reason.{Reason}
@@ -74,7 +74,7 @@ module _ {K T F I : Type 0} (g : Procedures K T F I) (s : State K T F I) (p o : 
       (λ attrs wanted m rest n. nothing_tells (settle g (with_pending s p attrs wanted m rest n)) (sym (count-settle g (with_pending s p attrs wanted m rest n) o))) t root name attrs wanted answer tt h
 
   -- what a parse leads to, where it settles again
-  pub judged_tells : (v : State K T F I) (refusals : List (Bool × Status)) (x : Pending K) (outcome : Option (ParseOutcome F I)) (answer : Answer)
+  pub judged_tells : (v : State K T F I) (refusals : List (Bool × Status)) (x : PendingOpen K) (outcome : Option (ParseOutcome F I)) (answer : Answer)
       → x.process ≡ p → Unless refusals s answer v (EndsOpen g s x outcome answer v) → GrantTells answer (settle g v)
   judged_tells v refusals x outcome answer owner h =
       unless_lands g s p Settled (λ why. Unit {0}) (λ body. Unit {0}) refuses drops grants makes refusals v answer (EndsOpen g s x outcome answer v)
@@ -105,7 +105,7 @@ module _ {K T F I : Type 0} (g : Procedures K T F I) (s : State K T F I) (p o : 
 
 module _ {K T F I : Type 0} (g : Procedures K T F I) where
   -- a pending open is resumed
-  pub resume_tells : (s t : State K T F I) (x : Pending K) (outcome : Option (ParseOutcome F I)) (answer : Answer) (o : ℕ) (reason : Reason)
+  pub resume_tells : (s t : State K T F I) (x : PendingOpen K) (outcome : Option (ParseOutcome F I)) (answer : Answer) (o : ℕ) (reason : Reason)
       → IsSound s → HasTicket s x → Resumes g s x outcome answer t → Tells (set_count s o) (calls_of_grant reason t x.process (handle_given answer) o) (set_count t o)
   resume_tells s t x outcome answer o reason sound ticket h =
       let u = parsed_state s x.ticket outcome in

@@ -10,7 +10,7 @@ use Rattle.ob_model.specs.declared.reply.Given.TheVariants.{Handle}
 use Rattle.ob_model.specs.declared.state.Body.{Body}
 use Rattle.ob_model.specs.declared.state.Body.TheVariants.{Other}
 use Rattle.ob_model.specs.declared.state.Object.{Object}
-use Rattle.ob_model.specs.declared.state.Pending.{Pending}
+use Rattle.ob_model.specs.declared.state.PendingOpen.{PendingOpen}
 use Rattle.ob_model.specs.declared.state.Wanted.{Wanted}
 use Rattle.ob_model.specs.declared.terms.Reason.{Reason}
 use Rattle.ob_model.specs.declared.terms.Reason.TheVariants.{Opened as ForOpen, Created as ForCreate, Duplicated as ForDuplicate}
@@ -107,7 +107,7 @@ module _ {K T F I : Type 0} (g : Procedures K T F I) (s : State K T F I) (p : �
           (λ attrs wanted m rest n. settled_ungiven (with_pending s p attrs wanted m rest n) rises refl (λ o. refl)) t root name attrs wanted answer refl h
 
       -- what a parse leads to, where it settles again
-      pub judged_moves : (v : State K T F I) (refusals : List (Bool × Status)) (x : Pending K) (outcome : Option (ParseOutcome F I)) (answer : Answer)
+      pub judged_moves : (v : State K T F I) (refusals : List (Bool × Status)) (x : PendingOpen K) (outcome : Option (ParseOutcome F I)) (answer : Answer)
           → x.process ≡ p → Unless refusals s answer v (EndsOpen g s x outcome answer v) → GrantMoves answer (settle g v)
       judged_moves v refusals x outcome answer owner h =
           unless_lands g s p Settled (λ reason. reason ≡ ForOpen) (λ body. ⊥) refuses (λ status body is. absurd is) grants (λ spot body attrs value is free taken. absurd is) refusals v answer
@@ -187,7 +187,7 @@ module _ {K T F I : Type 0} (g : Procedures K T F I) (s : State K T F I) (ticket
       go false (Some (EndsReparse text)) = refl
       go false (Some (EndsRefused k)) = refl
 
-module _ {K T F I : Type 0} (g : Procedures K T F I) (s t : State K T F I) (x : Pending K) (outcome : Option (ParseOutcome F I)) (answer : Answer)
+module _ {K T F I : Type 0} (g : Procedures K T F I) (s t : State K T F I) (x : PendingOpen K) (outcome : Option (ParseOutcome F I)) (answer : Answer)
     (sound : IsSound s) (rises : Rises s) (has : HasTicket s x) where
   -- a pending open is resumed, or given up
   pub resume_moves : Resumes g s x outcome answer t → Moves g s t (parsed g s x.ticket outcome has.0) (λ o. calls_of_grant ForOpen t x.process (handle_given answer) o)

@@ -14,7 +14,7 @@ use Rattle.ob_model.specs.declared.reply.Answer.TheVariants.{Ticket}
 use Rattle.ob_model.specs.declared.reply.Given.TheVariants.{Handle}
 use Rattle.ob_model.specs.declared.state.Held.{Held}
 use Rattle.ob_model.specs.declared.state.Body.{Body}
-use Rattle.ob_model.specs.declared.state.Pending.{Pending}
+use Rattle.ob_model.specs.declared.state.PendingOpen.{PendingOpen}
 use Rattle.ob_model.specs.declared.state.Wanted.{Wanted}
 use Rattle.ob_model.specs.State.{State, is_live, is_store_full, held_of}
 use Rattle.ob_model.specs.Looks.{Look, At, Vacant, Parse, Refused, LooksUp, most_reparses}
@@ -171,7 +171,7 @@ module _ {K T F I : Type 0} (g : Procedures K T F I) (s : State K T F I) (p : �
         Does at = (look : Look) × LooksUp g s p (open_mode wanted attrs) most_reparses at name look × Opens g s p attrs wanted look answer t
 
     -- what a parse leads to, in the state in which it is judged
-    pub ends_open_lands : (t : State K T F I) (x : Pending K) (outcome : Option (ParseOutcome F I)) (answer : Answer) → Fits Opened → x.process ≡ p → EndsOpen g s x outcome answer t → P answer t
+    pub ends_open_lands : (t : State K T F I) (x : PendingOpen K) (outcome : Option (ParseOutcome F I)) (answer : Answer) → Fits Opened → x.process ≡ p → EndsOpen g s x outcome answer t → P answer t
     ends_open_lands t x None answer fits e h = refused_lands t NoMemory answer h
     ends_open_lands t x (Some EndsItself) answer fits e h =
         opens_at_lands t x.attrs x.wanted Success x.object answer fits (subst (λ q. OpensAt g s q x.attrs x.wanted Success x.object answer t) e h)

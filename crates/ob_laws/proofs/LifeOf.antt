@@ -6,7 +6,7 @@ use Rattle.std.proofs.lemmas.Bool.{false≢true}
 use Rattle.std.proofs.lemmas.List.Elements.{All-head, All-tail}
 use Rattle.std.proofs.lemmas.List.Sums.{sum_by-cons}
 use Rattle.ob_model.specs.declared.state.Held.{Held}
-use Rattle.ob_model.specs.declared.state.Pending.{Pending}
+use Rattle.ob_model.specs.declared.state.PendingOpen.{PendingOpen}
 use Rattle.ob_model.specs.State.{State, object_of, handle_count, handle_count_in}
 use Rattle.ob_model.specs.Sound.{IsSound, Stands}
 use Rattle.ob_model.specs.Calls.{Call, Passed, is_of_set}
@@ -72,7 +72,7 @@ module _ {K T F I : Type 0} where
       go true e = absurd (false≢true (sym (ap is_some absent) ∙ subst (Stands s) (eqb-true m o e) stands))
       go false e = refl
 
-  pub none_pinned : (s : State K T F I) (o : ℕ) → object_of s o ≡ None → (xs : List (Pending K)) → All (λ x. Stands s x.object) xs → list_any (λ x. x.object == o) xs ≡ false
+  pub none_pinned : (s : State K T F I) (o : ℕ) → object_of s o ≡ None → (xs : List (PendingOpen K)) → All (λ x. Stands s x.object) xs → list_any (λ x. x.object == o) xs ≡ false
   none_pinned s o absent [] stand = refl
   none_pinned s o absent (x ∷ xs) stand =
       ap (λ b. b || list_any (λ y. y.object == o) xs) (other_than s o x.object absent (All-head (λ y. Stands s y.object) x xs stand))

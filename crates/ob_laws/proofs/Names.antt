@@ -12,7 +12,7 @@ use Rattle.ob_model.specs.declared.reply.Event.{Event}
 use Rattle.ob_model.specs.declared.reply.Event.TheVariants.{Start, Resume, Abandon}
 use Rattle.ob_model.specs.declared.state.Body.{Body}
 use Rattle.ob_model.specs.declared.state.Held.{Held}
-use Rattle.ob_model.specs.declared.state.Pending.{Pending}
+use Rattle.ob_model.specs.declared.state.PendingOpen.{PendingOpen}
 use Rattle.ob_model.specs.State.{State, is_live}
 use Rattle.ob_model.specs.Opening.{opening}
 use Rattle.ob_model.specs.declared.terms.Reason.TheVariants.{Inherited}
@@ -120,7 +120,7 @@ module _ {K T F I : Type 0} (b : State K T F I) where
     step_names s t (Start p command) answer has h = came_names s t has (started p command answer h)
     step_names s t (Resume ticket parse) answer has h = go (pending_of s ticket) h.2
       where
-        go : (found : Option (Pending K)) → MatchOption found ⊥ (λ x. Resumes g s x h.0 answer t) → Keeps t
+        go : (found : Option (PendingOpen K)) → MatchOption found ⊥ (λ x. Resumes g s x h.0 answer t) → Keeps t
         go None does = absurd does
         go (Some x) does =
             subst Keeps (sym does.2)
@@ -128,7 +128,7 @@ module _ {K T F I : Type 0} (b : State K T F I) where
             (came_names (parsed_state s x.ticket h.0) does.0 (parsed_names s x.ticket h.0 has) (judged ((not (is_live s x.process), ProcessGone) ∷ []) x h.0 answer does.1)))
     step_names s t (Abandon ticket parse) answer has h = go (pending_of s ticket) h.2
       where
-        go : (found : Option (Pending K)) → MatchOption found ⊥ (λ x. Abandons g s x h.0 answer t) → Keeps t
+        go : (found : Option (PendingOpen K)) → MatchOption found ⊥ (λ x. Abandons g s x h.0 answer t) → Keeps t
         go None does = absurd does
         go (Some x) does = subst Keeps (sym does.1) (settled_names (parsed_state s x.ticket h.0) (parsed_names s x.ticket h.0 has))
 

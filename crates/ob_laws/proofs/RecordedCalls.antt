@@ -9,7 +9,7 @@ use Rattle.ob_model.specs.declared.reply.Event.{Event}
 use Rattle.ob_model.specs.declared.reply.Event.TheVariants.{Start, Resume, Abandon}
 use Rattle.ob_model.specs.declared.reply.ParseRun.{ParseRun}
 use Rattle.ob_model.specs.declared.reply.ParseRun.TheVariants as run
-use Rattle.ob_model.specs.declared.state.Pending.{Pending}
+use Rattle.ob_model.specs.declared.state.PendingOpen.{PendingOpen}
 use Rattle.ob_model.specs.declared.terms.Reason.{Reason}
 use Rattle.ob_model.specs.State.{State}
 use Rattle.ob_model.specs.Opening.{opening}
@@ -158,7 +158,7 @@ module _ {K T F I : Type 0} (below : Procedures K T F I) where
   parse_unopened {face = face} {rest = rest} (ends_made {next = next} {used = used} {inner = inner} e all) = unopened_front (below.parsed face rest) used next inner e
   parse_unopened (goes_on e less later) = parse_unopened later
 
-  parsed_unopened : (s : State K (Recorder T) F (Recorded I)) (x : Pending K) (parse : ParseRun) (outcome : Option (ParseOutcome F (Recorded I))) → IsParsed recording s x parse outcome → HasSerial 0 (made_by_parse outcome)
+  parsed_unopened : (s : State K (Recorder T) F (Recorded I)) (x : PendingOpen K) (parse : ParseRun) (outcome : Option (ParseOutcome F (Recorded I))) → IsParsed recording s x parse outcome → HasSerial 0 (made_by_parse outcome)
   parsed_unopened s x run.Unrun outcome h = subst (λ a. HasSerial 0 (made_by_parse a)) (sym h) tt
   parsed_unopened s x run.NoMemory outcome h = subst (λ a. HasSerial 0 (made_by_parse a)) (sym h) tt
   parsed_unopened s x run.Ran None h = tt
@@ -168,7 +168,7 @@ module _ {K T F I : Type 0} (below : Procedures K T F I) where
       go None h = absurd h
       go (Some face) h = parse_unopened h
 
-  pending_unopened : (s : State K (Recorder T) F (Recorded I)) (found : Option (Pending K)) (parse : ParseRun) (outcome : Option (ParseOutcome F (Recorded I)))
+  pending_unopened : (s : State K (Recorder T) F (Recorded I)) (found : Option (PendingOpen K)) (parse : ParseRun) (outcome : Option (ParseOutcome F (Recorded I)))
       → MatchOption found ⊥ (λ x. IsParsed recording s x parse outcome) → HasSerial 0 (made_by_parse outcome)
   pending_unopened s None parse outcome h = absurd h
   pending_unopened s (Some x) parse outcome h = parsed_unopened s x parse outcome h

@@ -11,7 +11,7 @@ use Rattle.ob_model.specs.declared.state.Body.{Body}
 use Rattle.ob_model.specs.declared.state.Body.TheVariants.{Other}
 use Rattle.ob_model.specs.declared.state.Held.{Held}
 use Rattle.ob_model.specs.declared.state.Object.{Object}
-use Rattle.ob_model.specs.declared.state.Pending.{Pending}
+use Rattle.ob_model.specs.declared.state.PendingOpen.{PendingOpen}
 use Rattle.ob_model.specs.State.{State, is_live, insert_object}
 use Rattle.ob_model.specs.declared.terms.Reason.{Reason}
 use Rattle.ob_model.specs.declared.terms.Reason.TheVariants.{Created, Inherited}
@@ -120,7 +120,7 @@ module _ {K T F I : Type 0} (g : Procedures K T F I) where
   rises_step s t (Start p command) answer sound rises h = rises_came s t sound rises (started p command answer h)
   rises_step s t (Resume ticket parse) answer sound rises h = go (pending_of s ticket) (has_ticket s ticket sound) h.2
     where
-      go : (found : Option (Pending K)) → MatchOption found (Unit {0}) (HasTicket s) → MatchOption found ⊥ (λ x. Resumes g s x h.0 answer t) → Rises t
+      go : (found : Option (PendingOpen K)) → MatchOption found (Unit {0}) (HasTicket s) → MatchOption found ⊥ (λ x. Resumes g s x h.0 answer t) → Rises t
       go None has does = absurd does
       go (Some x) has does =
           subst Rises (sym does.2)
@@ -129,6 +129,6 @@ module _ {K T F I : Type 0} (g : Procedures K T F I) where
           (judged ((not (is_live s x.process), ProcessGone) ∷ []) x h.0 answer does.1)))
   rises_step s t (Abandon ticket parse) answer sound rises h = go (pending_of s ticket) (has_ticket s ticket sound) h.2
     where
-      go : (found : Option (Pending K)) → MatchOption found (Unit {0}) (HasTicket s) → MatchOption found ⊥ (λ x. Abandons g s x h.0 answer t) → Rises t
+      go : (found : Option (PendingOpen K)) → MatchOption found (Unit {0}) (HasTicket s) → MatchOption found ⊥ (λ x. Abandons g s x h.0 answer t) → Rises t
       go None has does = absurd does
       go (Some x) has does = subst Rises (sym does.1) (rises_settled (parsed_state s x.ticket h.0) (rises_parsed s x.ticket h.0 has.0 rises))

@@ -9,7 +9,7 @@ use Rattle.ob_model.specs.declared.reply.Event.{Event}
 use Rattle.ob_model.specs.declared.reply.Event.TheVariants.{Start, Resume, Abandon}
 use Rattle.ob_model.specs.declared.state.Body.{Body}
 use Rattle.ob_model.specs.declared.state.Held.{Held}
-use Rattle.ob_model.specs.declared.state.Pending.{Pending}
+use Rattle.ob_model.specs.declared.state.PendingOpen.{PendingOpen}
 use Rattle.ob_model.specs.State.{State, is_live}
 use Rattle.ob_model.specs.Opening.{opening}
 use Rattle.ob_model.specs.declared.terms.Reason.TheVariants.{Inherited}
@@ -82,7 +82,7 @@ module _ {K T F I : Type 0} (g : Procedures K T F I) where
   step_stamps s t (Start p command) answer has h = came_stamps s t has (started p command answer h)
   step_stamps s t (Resume ticket parse) answer has h = go (pending_of s ticket) h.2
     where
-      go : (found : Option (Pending K)) → MatchOption found ⊥ (λ x. Resumes g s x h.0 answer t) → HasStamps t
+      go : (found : Option (PendingOpen K)) → MatchOption found ⊥ (λ x. Resumes g s x h.0 answer t) → HasStamps t
       go None does = absurd does
       go (Some x) does =
           subst HasStamps (sym does.2)
@@ -90,7 +90,7 @@ module _ {K T F I : Type 0} (g : Procedures K T F I) where
           (came_stamps (parsed_state s x.ticket h.0) does.0 (parsed_stamps s x.ticket h.0 has) (judged ((not (is_live s x.process), ProcessGone) ∷ []) x h.0 answer does.1)))
   step_stamps s t (Abandon ticket parse) answer has h = go (pending_of s ticket) h.2
     where
-      go : (found : Option (Pending K)) → MatchOption found ⊥ (λ x. Abandons g s x h.0 answer t) → HasStamps t
+      go : (found : Option (PendingOpen K)) → MatchOption found ⊥ (λ x. Abandons g s x h.0 answer t) → HasStamps t
       go None does = absurd does
       go (Some x) does = subst HasStamps (sym does.1) (settled_stamps (parsed_state s x.ticket h.0) (parsed_stamps s x.ticket h.0 has))
 

@@ -16,7 +16,7 @@ use Rattle.ob_model.specs.declared.reply.Event.TheVariants.{Start, Resume, Aband
 use Rattle.ob_model.specs.declared.reply.Given.TheVariants.{Process}
 use Rattle.ob_model.specs.declared.state.Held.{Held}
 use Rattle.ob_model.specs.declared.state.Object.{Object}
-use Rattle.ob_model.specs.declared.state.Pending.{Pending}
+use Rattle.ob_model.specs.declared.state.PendingOpen.{PendingOpen}
 use Rattle.ob_model.specs.declared.state.Wanted.TheVariants as wanted
 use Rattle.ob_model.specs.State.{State, object_of, is_live, is_directory, held_of, handle_count, handle_count_in}
 use Rattle.ob_model.specs.declared.terms.Reason.{Reason}
@@ -326,7 +326,7 @@ module _ {K T F I : Type 0} (g : Procedures K T F I) (s t : State K T F I) (o : 
 
   -- ---- the end of a pending open
 
-  module _ (ticket : ℕ) (x : Pending K) (outcome : Option (ParseOutcome F I)) (found : pending_of s ticket ≡ Some x) (has : HasTicket s x)
+  module _ (ticket : ℕ) (x : PendingOpen K) (outcome : Option (ParseOutcome F I)) (found : pending_of s ticket ≡ Some x) (has : HasTicket s x)
       (then_on : GoesOn o (parsed_state s x.ticket outcome) t) where
     of_ticket : x.ticket ≡ ticket
     of_ticket = eqb-true x.ticket ticket (found_is (λ y. y.ticket == ticket) s.pending x found)
@@ -401,7 +401,7 @@ module _ {K T F I : Type 0} (g : Procedures K T F I) where
       (λ gone. (unended g s t o sound p gone, refl))
   step_tells s t (Resume ticket parse) outcome answer o sound h = go (handle_count_in t (maker_of s (Resume ticket parse)) o) (pending_of s ticket) refl (has_ticket s ticket sound) h.2
     where
-      go : (left : ℕ) (found : Option (Pending K)) → pending_of s ticket ≡ found → MatchOption found (Unit {0}) (HasTicket s) → MatchOption found ⊥ (λ x. Resumes g s x h.0 answer t)
+      go : (left : ℕ) (found : Option (PendingOpen K)) → pending_of s ticket ≡ found → MatchOption found (Unit {0}) (HasTicket s) → MatchOption found ⊥ (λ x. Resumes g s x h.0 answer t)
           → StepTells s t o left (option_map_or (λ x. calls_of_grant ForOpen t x.process (handle_given answer) o) found [] ++ calls_of_end s t (is_made outcome && (o == ticket)) o)
       go left None e has does = absurd does
       go left (Some x) e has does =
@@ -410,7 +410,7 @@ module _ {K T F I : Type 0} (g : Procedures K T F I) where
           (resume_tells g s t x h.0 answer o ForOpen sound has does) (made_is_taken g s t o sound ticket x h.0 e has then_on (is_made outcome)) (unmade g s t o sound ticket x h.0 e has then_on (is_made outcome))
   step_tells s t (Abandon ticket parse) outcome answer o sound h = go (handle_count_in t (maker_of s (Abandon ticket parse)) o) (pending_of s ticket) refl (has_ticket s ticket sound) h.2
     where
-      go : (left : ℕ) (found : Option (Pending K)) → pending_of s ticket ≡ found → MatchOption found (Unit {0}) (HasTicket s) → MatchOption found ⊥ (λ x. Abandons g s x h.0 answer t)
+      go : (left : ℕ) (found : Option (PendingOpen K)) → pending_of s ticket ≡ found → MatchOption found (Unit {0}) (HasTicket s) → MatchOption found ⊥ (λ x. Abandons g s x h.0 answer t)
           → StepTells s t o left (calls_of_end s t (is_made outcome && (o == ticket)) o)
       go left None e has does = absurd does
       go left (Some x) e has does =

@@ -15,7 +15,7 @@ use Rattle.ob_model.specs.declared.reply.ParseRun.TheVariants as run
 use Rattle.ob_model.specs.declared.state.Body.{Body}
 use Rattle.ob_model.specs.declared.state.Held.{Held}
 use Rattle.ob_model.specs.declared.state.Object.{Object}
-use Rattle.ob_model.specs.declared.state.Pending.{Pending}
+use Rattle.ob_model.specs.declared.state.PendingOpen.{PendingOpen}
 use Rattle.ob_model.specs.declared.state.Wanted.TheVariants as wanted
 use Rattle.ob_model.specs.State.{State, object_of, is_live, is_directory, held_of, handle_count, handle_count_in}
 use Rattle.ob_model.specs.declared.terms.Reason.TheVariants.{Opened as ForOpen, Duplicated as ForDuplicate}
@@ -201,7 +201,7 @@ module _ {K T F I : Type 0} (g : Procedures K T F I) (s t : State K T F I) (soun
 -- ---- what is brought
 
 module _ {K T F I : Type 0} (g : Procedures K T F I) (s : State K T F I) where
-  parsed_once : (x : Pending K) (parse : ParseRun) (a b : Option (ParseOutcome F I)) → IsParsed g s x parse a → IsParsed g s x parse b → a ≡ b
+  parsed_once : (x : PendingOpen K) (parse : ParseRun) (a b : Option (ParseOutcome F I)) → IsParsed g s x parse a → IsParsed g s x parse b → a ≡ b
   parsed_once x run.Unrun a b h k = h ∙ sym k
   parsed_once x run.NoMemory a b h k = h ∙ sym k
   parsed_once x run.Ran None b h k = absurd h
@@ -212,7 +212,7 @@ module _ {K T F I : Type 0} (g : Procedures K T F I) (s : State K T F I) where
       go None h k = absurd h
       go (Some face) h k = ap (λ (outcome : ParseOutcome F I). Some outcome) (parse_unique g h k)
 
-  brought_for : (parse : ParseRun) (found : Option (Pending K)) (a b : Option (ParseOutcome F I)) → MatchOption found ⊥ (λ x. IsParsed g s x parse a) → MatchOption found ⊥ (λ x. IsParsed g s x parse b) → a ≡ b
+  brought_for : (parse : ParseRun) (found : Option (PendingOpen K)) (a b : Option (ParseOutcome F I)) → MatchOption found ⊥ (λ x. IsParsed g s x parse a) → MatchOption found ⊥ (λ x. IsParsed g s x parse b) → a ≡ b
   brought_for parse None a b h k = absurd h
   brought_for parse (Some x) a b h k = parsed_once x parse a b h k
 
@@ -228,7 +228,7 @@ module _ {K T F I : Type 0} (g : Procedures K T F I) (s : State K T F I) where
 
 module _ {K T F I : Type 0} (g : Procedures K T F I) where
   -- the end of the pending open of a ticket
-  under_ticket : (s t : State K T F I) (ticket : ℕ) (x : Pending K) (outcome : Option (ParseOutcome F I)) → pending_of s ticket ≡ Some x → (free : All (λ y. y.id ≢ x.ticket) s.objects)
+  under_ticket : (s t : State K T F I) (ticket : ℕ) (x : PendingOpen K) (outcome : Option (ParseOutcome F I)) → pending_of s ticket ≡ Some x → (free : All (λ y. y.id ≢ x.ticket) s.objects)
       → (moves : ℕ → List Call) → Moves g s t (parsed g s x.ticket outcome free) moves
       → Follows g (joined (inside s) (λ o. if o == ticket then made_by_parse outcome else None)) (inside t) (λ o. moves o ++ calls_of_end s t (is_made outcome && (o == ticket)) o)
   under_ticket s t ticket x outcome found free moves h =
@@ -279,7 +279,7 @@ module _ {K T F I : Type 0} (g : Procedures K T F I) where
   step_follows s t (Resume ticket parse) outcome answer sound rises brought h =
       subst (λ a. StepFollows s t (Resume ticket parse) a answer) (brought_once g s (Resume ticket parse) h.0 outcome h.1 brought) (go (pending_of s ticket) refl (has_ticket s ticket sound) h.2)
     where
-      go : (found : Option (Pending K)) → pending_of s ticket ≡ found → MatchOption found (Unit {0}) (HasTicket s) → MatchOption found ⊥ (λ x. Resumes g s x h.0 answer t)
+      go : (found : Option (PendingOpen K)) → pending_of s ticket ≡ found → MatchOption found (Unit {0}) (HasTicket s) → MatchOption found ⊥ (λ x. Resumes g s x h.0 answer t)
           → Follows g (joined (inside s) (λ o. if o == ticket then made_by_parse h.0 else None)) (inside t)
           (λ o. option_map_or (λ x. calls_of_grant ForOpen t x.process (handle_given answer) o) found [] ++ calls_of_end s t (is_made h.0 && (o == ticket)) o)
       go None e has does = absurd does
@@ -288,7 +288,7 @@ module _ {K T F I : Type 0} (g : Procedures K T F I) where
   step_follows s t (Abandon ticket parse) outcome answer sound rises brought h =
       subst (λ a. StepFollows s t (Abandon ticket parse) a answer) (brought_once g s (Abandon ticket parse) h.0 outcome h.1 brought) (go (pending_of s ticket) refl (has_ticket s ticket sound) h.2)
     where
-      go : (found : Option (Pending K)) → pending_of s ticket ≡ found → MatchOption found (Unit {0}) (HasTicket s) → MatchOption found ⊥ (λ x. Abandons g s x h.0 answer t)
+      go : (found : Option (PendingOpen K)) → pending_of s ticket ≡ found → MatchOption found (Unit {0}) (HasTicket s) → MatchOption found ⊥ (λ x. Abandons g s x h.0 answer t)
           → Follows g (joined (inside s) (λ o. if o == ticket then made_by_parse h.0 else None)) (inside t) (λ o. calls_of_end s t (is_made h.0 && (o == ticket)) o)
       go None e has does = absurd does
       go (Some x) e has does = under_ticket g s t ticket x h.0 e has.0 (λ o. []) (abandon_moves g s t x h.0 answer sound rises has does)

@@ -8,7 +8,7 @@ use Rattle.ob_model.specs.declared.command.Command.TheVariants.{CreateDirectory,
 use Rattle.ob_model.specs.declared.reply.Answer.{Answer}
 use Rattle.ob_model.specs.declared.reply.Event.{Event}
 use Rattle.ob_model.specs.declared.reply.Event.TheVariants.{Start, Resume, Abandon}
-use Rattle.ob_model.specs.declared.state.Pending.{Pending}
+use Rattle.ob_model.specs.declared.state.PendingOpen.{PendingOpen}
 use Rattle.ob_model.specs.declared.terms.Reason.{Reason}
 use Rattle.ob_model.specs.declared.terms.Reason.TheVariants.{Opened as ForOpen, Duplicated as ForDuplicate, Inherited as ForChild}
 use Rattle.ob_model.specs.State.{State, object_of, is_live, held_of, handle_count, handle_count_in}
@@ -65,7 +65,7 @@ module _ {K T F I : Type 0} (s t : State K T F I) (o : ℕ) (before : is_of_set 
   no_resume : (ticket : ℕ) (given : Option ℕ) → calls_of_resume s t ticket given o ≡ []
   no_resume ticket given = go (pending_of s ticket)
     where
-      go : (found : Option (Pending K)) → option_map_or (λ x. calls_of_grant ForOpen t x.process given o) found [] ≡ []
+      go : (found : Option (PendingOpen K)) → option_map_or (λ x. calls_of_grant ForOpen t x.process given o) found [] ≡ []
       go None = refl
       go (Some x) = no_grant ForOpen x.process given
 
@@ -91,12 +91,12 @@ module _ {K T F I : Type 0} (g : Procedures K T F I) (s t : State K T F I) (o : 
   step_on (Start p command) answer h = started_on g o s t p command answer h
   step_on (Resume ticket parse) answer h = go (pending_of s ticket) refl (has_ticket s ticket sound) h.2
     where
-      go : (found : Option (Pending K)) → pending_of s ticket ≡ found → MatchOption found (Unit {0}) (HasTicket s) → MatchOption found ⊥ (λ x. Resumes g s x h.0 answer t) → GoesOn o s t
+      go : (found : Option (PendingOpen K)) → pending_of s ticket ≡ found → MatchOption found (Unit {0}) (HasTicket s) → MatchOption found ⊥ (λ x. Resumes g s x h.0 answer t) → GoesOn o s t
       go None e has does = absurd does
       go (Some x) e has does = pending_on g s t o sound ticket x h.0 e has (resumed_on g o s t x h.0 answer does)
   step_on (Abandon ticket parse) answer h = go (pending_of s ticket) refl (has_ticket s ticket sound) h.2
     where
-      go : (found : Option (Pending K)) → pending_of s ticket ≡ found → MatchOption found (Unit {0}) (HasTicket s) → MatchOption found ⊥ (λ x. Abandons g s x h.0 answer t) → GoesOn o s t
+      go : (found : Option (PendingOpen K)) → pending_of s ticket ≡ found → MatchOption found (Unit {0}) (HasTicket s) → MatchOption found ⊥ (λ x. Abandons g s x h.0 answer t) → GoesOn o s t
       go None e has does = absurd does
       go (Some x) e has does = pending_on g s t o sound ticket x h.0 e has (abandoned_on g o s t x h.0 answer does)
 
@@ -104,7 +104,7 @@ module _ {K T F I : Type 0} (g : Procedures K T F I) (s t : State K T F I) (o : 
   stays_taken event answer h taken = (step_on event answer h).taken taken
 
   -- a taken number is no pending open's ticket
-  no_ticket : (ticket : ℕ) (x : Pending K) → pending_of s ticket ≡ Some x → IsTaken s o → (o == ticket) ≡ false
+  no_ticket : (ticket : ℕ) (x : PendingOpen K) → pending_of s ticket ≡ Some x → IsTaken s o → (o == ticket) ≡ false
   no_ticket ticket x found taken =
       ne_eqb o ticket
       (λ same.
@@ -117,12 +117,12 @@ module _ {K T F I : Type 0} (g : Procedures K T F I) (s t : State K T F I) (o : 
   none_made (Start p command) outcome answer h taken = refl
   none_made (Resume ticket parse) outcome answer h taken = go (pending_of s ticket) refl h.2
     where
-      go : (found : Option (Pending K)) → pending_of s ticket ≡ found → MatchOption found ⊥ (λ x. Resumes g s x h.0 answer t) → (if o == ticket then made_by_parse outcome else None) ≡ None
+      go : (found : Option (PendingOpen K)) → pending_of s ticket ≡ found → MatchOption found ⊥ (λ x. Resumes g s x h.0 answer t) → (if o == ticket then made_by_parse outcome else None) ≡ None
       go None e does = absurd does
       go (Some x) e does = ap (λ b. if b then made_by_parse outcome else None) (no_ticket ticket x e taken)
   none_made (Abandon ticket parse) outcome answer h taken = go (pending_of s ticket) refl h.2
     where
-      go : (found : Option (Pending K)) → pending_of s ticket ≡ found → MatchOption found ⊥ (λ x. Abandons g s x h.0 answer t) → (if o == ticket then made_by_parse outcome else None) ≡ None
+      go : (found : Option (PendingOpen K)) → pending_of s ticket ≡ found → MatchOption found ⊥ (λ x. Abandons g s x h.0 answer t) → (if o == ticket then made_by_parse outcome else None) ≡ None
       go None e does = absurd does
       go (Some x) e does = ap (λ b. if b then made_by_parse outcome else None) (no_ticket ticket x e taken)
 
@@ -133,12 +133,12 @@ module _ {K T F I : Type 0} (g : Procedures K T F I) (s t : State K T F I) (o : 
   came_taken (Start p command) outcome answer h e = absurd (false≢true e)
   came_taken (Resume ticket parse) outcome answer h e = go (pending_of s ticket) refl (has_ticket s ticket sound) h.2
     where
-      go : (found : Option (Pending K)) → pending_of s ticket ≡ found → MatchOption found (Unit {0}) (HasTicket s) → MatchOption found ⊥ (λ x. Resumes g s x h.0 answer t) → IsTaken t o
+      go : (found : Option (PendingOpen K)) → pending_of s ticket ≡ found → MatchOption found (Unit {0}) (HasTicket s) → MatchOption found ⊥ (λ x. Resumes g s x h.0 answer t) → IsTaken t o
       go None found has does = absurd does
       go (Some x) found has does = made_is_taken g s t o sound ticket x h.0 found has (resumed_on g o s t x h.0 answer does) (is_made outcome) e
   came_taken (Abandon ticket parse) outcome answer h e = go (pending_of s ticket) refl (has_ticket s ticket sound) h.2
     where
-      go : (found : Option (Pending K)) → pending_of s ticket ≡ found → MatchOption found (Unit {0}) (HasTicket s) → MatchOption found ⊥ (λ x. Abandons g s x h.0 answer t) → IsTaken t o
+      go : (found : Option (PendingOpen K)) → pending_of s ticket ≡ found → MatchOption found (Unit {0}) (HasTicket s) → MatchOption found ⊥ (λ x. Abandons g s x h.0 answer t) → IsTaken t o
       go None found has does = absurd does
       go (Some x) found has does = made_is_taken g s t o sound ticket x h.0 found has (abandoned_on g o s t x h.0 answer does) (is_made outcome) e
 

@@ -9,7 +9,7 @@ use Rattle.ob_model.specs.declared.reply.Answer.{Answer}
 use Rattle.ob_model.specs.declared.reply.Event.TheVariants.{Start}
 use Rattle.ob_model.specs.declared.state.Body.{Body}
 use Rattle.ob_model.specs.declared.state.Held.{Held}
-use Rattle.ob_model.specs.declared.state.Pending.{Pending}
+use Rattle.ob_model.specs.declared.state.PendingOpen.{PendingOpen}
 use Rattle.ob_model.specs.declared.state.Wanted.{Wanted}
 use Rattle.ob_model.specs.State.{State, is_live, object_of}
 use Rattle.ob_model.specs.declared.terms.Reason.{Reason}
@@ -46,7 +46,7 @@ found_is {X} test (y ∷ ys) x e = go (test y) refl e (found_is test ys x)
     go false is e rest = rest e
 
 -- what isn't kept away by a test of its ticket has another ticket
-pub other_tickets : {K : Type 0} (ticket : ℕ) (xs : List (Pending K)) → All (λ x. x.ticket ≢ ticket) (filter (λ x. not (x.ticket == ticket)) xs)
+pub other_tickets : {K : Type 0} (ticket : ℕ) (xs : List (PendingOpen K)) → All (λ x. x.ticket ≢ ticket) (filter (λ x. not (x.ticket == ticket)) xs)
 other_tickets ticket xs k d within = λ same.
     let passes : not ((get_or (filter (λ x. not (x.ticket == ticket)) xs) k d).ticket == ticket) ≡ true = filter_passes (λ x. not (x.ticket == ticket)) xs k d within in
     let is : ((get_or (filter (λ x. not (x.ticket == ticket)) xs) k d).ticket == ticket) ≡ true = eq-eqb _ ticket same in
@@ -174,12 +174,12 @@ module _ {K T F I : Type 0} (g : Procedures K T F I) (o : ℕ) where
       vacant (Some (EndsReparse text)) h e = e
       vacant (Some (EndsRefused k)) h e = e
 
-  pub resumed_on : (s t : State K T F I) (x : Pending K) (outcome : Option (ParseOutcome F I)) (answer : Answer) → Resumes g s x outcome answer t → GoesOn o (parsed_state s x.ticket outcome) t
+  pub resumed_on : (s t : State K T F I) (x : PendingOpen K) (outcome : Option (ParseOutcome F I)) (answer : Answer) → Resumes g s x outcome answer t → GoesOn o (parsed_state s x.ticket outcome) t
   resumed_on s t x outcome answer h =
       let u = parsed_state s x.ticket outcome in
       goes_further o u h.0 t (came_on u h.0 (judged ((not (is_live s x.process), ProcessGone) ∷ []) x outcome answer h.1)) (subst (GoesOn o h.0) (sym h.2) (settled_on h.0))
 
-  pub abandoned_on : (s t : State K T F I) (x : Pending K) (outcome : Option (ParseOutcome F I)) (answer : Answer) → Abandons g s x outcome answer t → GoesOn o (parsed_state s x.ticket outcome) t
+  pub abandoned_on : (s t : State K T F I) (x : PendingOpen K) (outcome : Option (ParseOutcome F I)) (answer : Answer) → Abandons g s x outcome answer t → GoesOn o (parsed_state s x.ticket outcome) t
   abandoned_on s t x outcome answer h = subst (GoesOn o (parsed_state s x.ticket outcome)) (sym h.1) (settled_on (parsed_state s x.ticket outcome))
 
   pub started_on : (s t : State K T F I) (p : ℕ) (command : Command K) (answer : Answer) → Step g s (Start p command) answer t → GoesOn o s t

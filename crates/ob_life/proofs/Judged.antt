@@ -10,7 +10,7 @@ use Rattle.std.proofs.lemmas.List.Kept.{AllPairs-filter}
 use Rattle.ob_model.specs.declared.state.Body.TheVariants.{Directory}
 use Rattle.ob_model.specs.declared.state.Row.{Row}
 use Rattle.ob_model.specs.declared.state.Held.{Held}
-use Rattle.ob_model.specs.declared.state.Pending.{Pending}
+use Rattle.ob_model.specs.declared.state.PendingOpen.{PendingOpen}
 use Rattle.ob_model.specs.declared.state.Object.{Object}
 use Rattle.ob_model.specs.declared.state.Process.{Process}
 use Rattle.ob_model.specs.Procedures.{Procedures}
@@ -332,7 +332,7 @@ module _ {K T F I : Type 0} (g : Procedures K T F I) (s : State K T F I) where
       mapped_same = ap (λ (ps : List Process). (id == global_id) || list_any (λ p. option_map_or (λ d. d == id) p.map false) ps) judged.processes
 
       pinned_same : is_pinned t id ≡ is_pinned s id
-      pinned_same = ap (list_any (λ (p : Pending K). p.object == id)) judged.pending
+      pinned_same = ap (list_any (λ (p : PendingOpen K). p.object == id)) judged.pending
 
       rows_next : (without_names t id).rows ≡ filter (λ r. is_kept s r || not (next r.object)) s.rows
       rows_next =

@@ -4,7 +4,7 @@ use Rattle.std.specs.Prelude.{◌≡◌, ◌⊎◌, ℕ, ◌<◌, Bool, true, fa
 use Rattle.std.specs.List.{list_any, find}
 use Rattle.std.specs.Option.{option_map_or, is_some}
 use Rattle.ob_model.specs.declared.state.Object.{Object}
-use Rattle.ob_model.specs.declared.state.Pending.{Pending}
+use Rattle.ob_model.specs.declared.state.PendingOpen.{PendingOpen}
 use Rattle.ob_model.specs.Procedures.{Procedures}
 use Rattle.ob_model.specs.State.{State, root_id, body_of, shadow_of}
 use Rattle.ob_model.specs.Settle.{has_shadow, is_permanent, has_handle, is_kept, has_name, is_pinned, is_mapped, deleted_one}
@@ -20,7 +20,7 @@ is_shadow objects o = list_any (λ x. has_shadow o x.body) objects
 
 -- by the standing of an object without a handle: it stays by its name, by what lies in it, as the root, as a map
 -- directory, pinned by a pending open, or as the shadow of a directory that is there
-abbrev pub held_up_by : {K F I : Type 0} → List (Object F I) → Running → List (Pending K) → ℕ → Standing → Bool
+abbrev pub held_up_by : {K F I : Type 0} → List (Object F I) → Running → List (PendingOpen K) → ℕ → Standing → Bool
 held_up_by objects running pending o standing =
     standing.holds_names || (standing.permanent && is_some standing.place) || (o == root_id) || is_mapped (running_alone running) o || list_any (λ p. p.object == o) pending || is_shadow objects o
 

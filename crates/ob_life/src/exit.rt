@@ -14,7 +14,7 @@ use ob_types::TypeSet;
 
 /// What a process that has ended leaves to be settled.
 #[derive(Drop)]
-pub struct Ended {
+pub struct EndedProcess {
     /// The objects that its handles led to.
     pub touched: Touched,
     /// The directory of its device map, where it had one.
@@ -34,7 +34,7 @@ pub struct Ended {
 pub fn end_process<T: TypeSet, H: HandleTable>(
     space: &mut Space<T, H>,
     process: Proc,
-) -> Option<Ended>
+) -> Option<EndedProcess>
     requires between { IsBetweenSteps T.idle space.old }
     ensures orderly { IsOrderly T.idle space.new }
     ensures ended { space.new ≡ ended T.procedures space.old process }
@@ -57,5 +57,5 @@ pub fn end_process<T: TypeSet, H: HandleTable>(
         );
     }
     let touched = ending.into_touched();
-    Some(Ended { touched, map })
+    Some(EndedProcess { touched, map })
 }

@@ -13,6 +13,6 @@ mod settle;
 
 pub use child::{Child, begin_child};
 pub use close::close_handle;
-pub use exit::{Ended, end_process};
+pub use exit::{EndedProcess, end_process};
 pub use permanence::set_permanence;
 pub use settle::{settle_after_end, settle_after_loss};

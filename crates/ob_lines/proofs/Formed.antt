@@ -18,9 +18,9 @@ use Rattle.ob_lines.specs.declared.request.Request.TheVariants.{CreateDirectory,
 use Rattle.ob_lines.specs.declared.verb.Verb.{Verb}
 use Rattle.ob_lines.specs.declared.verb.Verb.TheVariants as verb
 use Rattle.ob_parts.specs.Text.{Lacks, IsText}
-use Rattle.ob_parts.specs.Parts.{text_of, BeginsWithName, BeginsWithPlace, BeginsWithRoom, BeginsWithProcess, BeginsWithInherit, SetsWord, SetsProcess, IsFlagsAndWord, IsFlagsTextAndWord, IsWantNameFlagsAndWord, IsPlaceFlagsTextAndWord}
+use Rattle.ob_parts.specs.Parts.{text_of, BeginsWithName, BeginsWithPlace, BeginsWithRoom, BeginsWithProcess, BeginsWithInherit, IsSetting, SetsProcess, IsFlagsAndVariable, IsFlagsTextAndVariable, IsWantNameFlagsAndVariable, IsPlaceFlagsTextAndVariable}
 use Rattle.ob_lines.specs.Script.{HasForm, found_seen}
-use Rattle.ob_lines.specs.Grammar.{HasPlaceText, HasTexts, PendingHasTexts, FormHasTexts, verb_text, verb_of, IsOperands, IsVerbAndOperands, IsRequest, IsPending, IsHandlePlaceFlagsAndWord, IsHandleRoomAndMode, IsHandleProcessAndWord, IsInheritAndProcess, IsIdle, IsLine, LinesHaveOneForm, form_seen}
+use Rattle.ob_lines.specs.Grammar.{HasPlaceText, HasTexts, PendingHasTexts, FormHasTexts, verb_text, verb_of, IsOperands, IsVerbAndOperands, IsRequest, IsPending, IsHandlePlaceFlagsAndVariable, IsHandleRoomAndMode, IsHandleProcessAndVariable, IsInheritAndProcess, IsIdle, IsLine, LinesHaveOneForm, form_seen}
 use Rattle.ob_parts.proofs.Cuts.{lacks_no_cut}
 use Rattle.ob_parts.proofs.Flagged.{lacks_from_test}
 use Rattle.ob_parts.proofs.Handles.{handle_alike}
@@ -31,11 +31,11 @@ use Rattle.ob_lines.proofs.Verbs.{verb_lacks, verb_same, Each, of_verb, begin_no
 
 -- an H PLACE FLAGS =V has one reading
 handle_place_ends_alike : (bytes : List ℕ) (h : HandleForm (List ℕ)) (p : PlaceForm (List ℕ)) (a : ℕ) (w : List ℕ) (h' : HandleForm (List ℕ)) (p' : PlaceForm (List ℕ)) (a' : ℕ) (w' : List ℕ)
-    → IsHandlePlaceFlagsAndWord bytes h p a w → IsHandlePlaceFlagsAndWord bytes h' p' a' w' → (h ≡ h') × (p ≡ p') × (a ≡ a') × (w ≡ w')
+    → IsHandlePlaceFlagsAndVariable bytes h p a w → IsHandlePlaceFlagsAndVariable bytes h' p' a' w' → (h ≡ h') × (p ≡ p') × (a ≡ a') × (w ≡ w')
 handle_place_ends_alike bytes h p a w h' p' a' w' (r, m, b, c, f) (r', m', b', c', f') =
     let handle = handle_first_alike bytes h r h' r' b b' in
     let place = place_alike r p m p' m' c (moved (λ x. BeginsWithPlace x p' m') r r' handle.1 c') in
-    let same = ends_alike m a w a' w' f (moved (λ x. IsFlagsAndWord x a' w') m m' place.1 f') in
+    let same = ends_alike m a w a' w' f (moved (λ x. IsFlagsAndVariable x a' w') m m' place.1 f') in
     (handle.0, place.0, same.0, same.1)
 
 -- an H ROOM MODE has one reading
@@ -48,12 +48,12 @@ page_ends_alike bytes h n m h' n' m' (r, l, a, b, c) (r', l', a', b', c') =
 
 -- an H Q plain =V has one reading, and a plain =Q
 handle_ends_alike : (bytes : List ℕ) (h : HandleForm (List ℕ)) (q : List ℕ) (i : Bool) (w : List ℕ) (h' : HandleForm (List ℕ)) (q' : List ℕ) (i' : Bool) (w' : List ℕ)
-    → IsHandleProcessAndWord bytes h q i w → IsHandleProcessAndWord bytes h' q' i' w' → (h ≡ h') × (q ≡ q') × (i ≡ i') × (w ≡ w')
+    → IsHandleProcessAndVariable bytes h q i w → IsHandleProcessAndVariable bytes h' q' i' w' → (h ≡ h') × (q ≡ q') × (i ≡ i') × (w ≡ w')
 handle_ends_alike bytes h q i w h' q' i' w' (r, m, l, a, b, c, s) (r', m', l', a', b', c', s') =
     let handle = handle_first_alike bytes h r h' r' a a' in
     let process = process_alike r q m q' m' b (moved (λ x. BeginsWithProcess x q' m') r r' handle.1 b') in
     let inherit = inherit_alike m i l i' l' c (moved (λ x. BeginsWithInherit x i' l') m m' process.1 c') in
-    (handle.0, process.0, inherit.0, set_alike l w w' s (moved (λ x. SetsWord x w') l l' inherit.1 s'))
+    (handle.0, process.0, inherit.0, set_alike l w w' s (moved (λ x. IsSetting x w') l l' inherit.1 s'))
 
 inherit_ends_alike : (bytes : List ℕ) (i : Bool) (q : List ℕ) (i' : Bool) (q' : List ℕ) → IsInheritAndProcess bytes i q → IsInheritAndProcess bytes i' q'
     → (i ≡ i') × (q ≡ q')
@@ -65,7 +65,7 @@ inherit_ends_alike bytes i q i' q' (r, c, s) (r', c', s') =
 reads_alone : (bytes : List ℕ) (a : Request (List ℕ)) → IsOperands bytes a → Each (verb_of a) (λ b. IsOperands bytes b → a ≡ b)
 reads_alone bytes (CreateDirectory p a w) (r, b, f) = λ p' a' w' s.
     let place = place_alike bytes p r p' s.0 b s.1 in
-    let same = ends_alike r a w a' w' f (moved (λ x. IsFlagsAndWord x a' w') r s.0 place.1 s.2) in
+    let same = ends_alike r a w a' w' f (moved (λ x. IsFlagsAndVariable x a' w') r s.0 place.1 s.2) in
     rw (place.0, same.0, same.1) refl
 reads_alone bytes (CreateShadowed h p a w) s = λ h' p' a' w' s'.
     let same = handle_place_ends_alike bytes h p a w h' p' a' w' s s' in
@@ -75,7 +75,7 @@ reads_alone bytes (CreateLink p a t w) s = λ p' a' t' w' s'.
     rw (same.0, same.1, same.2, same.3) refl
 reads_alone bytes (CreateObject k p a t w) (r, c, s) = λ k' p' a' t' w' s'.
     let kind = kind_alike bytes k r k' s'.0 c s'.1 in
-    let same = place_ends_alike r p a t w p' a' t' w' s (moved (λ x. IsPlaceFlagsTextAndWord x p' a' t' w') r s'.0 kind.1 s'.2) in
+    let same = place_ends_alike r p a t w p' a' t' w' s (moved (λ x. IsPlaceFlagsTextAndVariable x p' a' t' w') r s'.0 kind.1 s'.2) in
     rw (kind.0, same.0, same.1, same.2, same.3) refl
 reads_alone bytes (OpenDirectory n a w) s = λ n' a' w' s'.
     let same = name_ends_alike bytes n a w n' a' w' s s' in
@@ -107,10 +107,10 @@ operands_alike : (bytes : List ℕ) (a b : Request (List ℕ)) → verb_of a ≡
 operands_alike bytes a b e s = of_verb (λ r. IsOperands bytes r → a ≡ r) (verb_of a) (reads_alone bytes a s) b (sym e)
 
 -- a verb and operands that are cut behind the verb are no other
-pub request_parts : (bytes word rest : List ℕ) (r : Request (List ℕ)) → bytes ≡ word ++ (0x20 ∷ rest) → Lacks 0x20 word → IsVerbAndOperands bytes r
-    → (word ≡ verb_text (verb_of r)) × IsOperands rest r
-request_parts bytes word rest r e l (operands, f, s) =
-    let same : (word ≡ verb_text (verb_of r)) × (rest ≡ operands) = spaced_alike bytes word rest (verb_text (verb_of r)) operands l (verb_lacks (verb_of r)) e f in
+pub request_parts : (bytes variable rest : List ℕ) (r : Request (List ℕ)) → bytes ≡ variable ++ (0x20 ∷ rest) → Lacks 0x20 variable → IsVerbAndOperands bytes r
+    → (variable ≡ verb_text (verb_of r)) × IsOperands rest r
+request_parts bytes variable rest r e l (operands, f, s) =
+    let same : (variable ≡ verb_text (verb_of r)) × (rest ≡ operands) = spaced_alike bytes variable rest (verb_text (verb_of r)) operands l (verb_lacks (verb_of r)) e f in
     (same.0, moved (λ x. IsOperands x r) rest operands same.1 s)
 
 pub request_uncut : (bytes : List ℕ) (r : Request (List ℕ)) → Lacks 0x20 bytes → ¬ IsVerbAndOperands bytes r
@@ -118,9 +118,9 @@ request_uncut bytes r l (operands, e, s) =
     lacks_no_cut 0x20 bytes (verb_text (verb_of r)) operands l (spaced bytes (verb_text (verb_of r)) operands e)
 
 -- a verb, a space and its operands are read so
-pub request_joined : (bytes word rest : List ℕ) (v : Verb) (r : Request (List ℕ)) → bytes ≡ word ++ (0x20 ∷ rest) → word ≡ verb_text v → verb_of r ≡ v
+pub request_joined : (bytes variable rest : List ℕ) (v : Verb) (r : Request (List ℕ)) → bytes ≡ variable ++ (0x20 ∷ rest) → variable ≡ verb_text v → verb_of r ≡ v
     → IsOperands rest r → IsVerbAndOperands bytes r
-request_joined bytes word rest v r e f g s = (rest, e ∙ (rw (f, g) (sym (simp append_assoc))), s)
+request_joined bytes variable rest v r e f g s = (rest, e ∙ (rw (f, g) (sym (simp append_assoc))), s)
 
 -- `exit` alone is no verb with operands, and bytes that a test tells apart from it are no `exit`
 alone_no_operands : (bytes : List ℕ) (r : Request (List ℕ)) → bytes ≡ codes "exit" → ¬ IsVerbAndOperands bytes r
@@ -144,8 +144,8 @@ request_alike bytes a b (inr s) (inr t) = spelled_requests_alike bytes a b s t
 
 -- what is asked of an open that waits has one reading
 begun_parts : (bytes rest : List ℕ) (k : Option KindForm) (n : NameForm (List ℕ)) (a : ℕ) (w : List ℕ) → bytes ≡ codes "begin " ++ rest
-    → IsPending bytes (Begin k n a w) → IsWantNameFlagsAndWord rest k n a w
-begun_parts bytes rest k n a w e (operands, f, s) = moved (λ x. IsWantNameFlagsAndWord x k n a w) rest operands (ap (drop 6) (sym e ∙ f)) s
+    → IsPending bytes (Begin k n a w) → IsWantNameFlagsAndVariable rest k n a w
+begun_parts bytes rest k n a w e (operands, f, s) = moved (λ x. IsWantNameFlagsAndVariable x k n a w) rest operands (ap (drop 6) (sym e ∙ f)) s
 
 pending_alike : (bytes : List ℕ) (a b : PendingForm (List ℕ)) → IsPending bytes a → IsPending bytes b → a ≡ b
 pending_alike bytes (Begin k n a w) (Begin k' n' a' w') (rest, e, s) t =
@@ -162,7 +162,7 @@ pending_alike bytes (Drop v) (Drop w) (is, e) (are, f) = ap Drop (ap (drop 5) (s
 
 -- and is no request: neither `exit`, nor a verb with operands
 pending_cut : (bytes : List ℕ) (p : PendingForm (List ℕ)) → IsPending bytes p
-    → (word rest : List ℕ) × (bytes ≡ word ++ (0x20 ∷ rest)) × Lacks 0x20 word × ((v : Verb) → ¬ (word ≡ verb_text v))
+    → (variable rest : List ℕ) × (bytes ≡ variable ++ (0x20 ∷ rest)) × Lacks 0x20 variable × ((v : Verb) → ¬ (variable ≡ verb_text v))
 pending_cut bytes (Begin k n a w) (rest, e, s) = (codes "begin", rest, e, lacks_from_test 0x20 (codes "begin") refl, begin_no_verb)
 pending_cut bytes (End w) (is, e) = (codes "end", w, e, lacks_from_test 0x20 (codes "end") refl, end_no_verb)
 pending_cut bytes (Drop w) (is, e) = (codes "drop", w, e, lacks_from_test 0x20 (codes "drop") refl, drop_no_verb)
@@ -177,13 +177,13 @@ pending_no_request bytes p r s (inr t) =
 
 -- bytes that begin with `begin ` and go on otherwise ask nothing of an open that waits
 pub begin_alone : (bytes rest : List ℕ) → bytes ≡ codes "begin " ++ rest
-    → ((k : Option KindForm) (n : NameForm (List ℕ)) (a : ℕ) (w : List ℕ) → ¬ IsWantNameFlagsAndWord rest k n a w)
+    → ((k : Option KindForm) (n : NameForm (List ℕ)) (a : ℕ) (w : List ℕ) → ¬ IsWantNameFlagsAndVariable rest k n a w)
     → (p : PendingForm (List ℕ)) → ¬ IsPending bytes p
 begin_alone bytes rest e none (Begin k n a w) s = none k n a w (begun_parts bytes rest k n a w e s)
 begin_alone bytes rest e none (End w) (is, f) = apart 0x62 0x65 (sym e ∙ f) (omega arith)
 begin_alone bytes rest e none (Drop w) (is, f) = apart 0x62 0x64 (sym e ∙ f) (omega arith)
 
--- a line that begins with a process word asks for what stands behind it
+-- a line that begins with a process variable asks for what stands behind it
 pub asks_rest : (line process rest p : List ℕ) (r : Request (List ℕ)) → BeginsWithProcess line process rest → IsLine line (Asks p r) → (process ≡ p) × IsRequest rest r
 asks_rest line process rest p r b (more, c, request, short) =
     let same = process_alike line process rest p more b c in
@@ -194,12 +194,12 @@ waits_rest line process rest p w b (more, c, pending, short) =
     let same = process_alike line process rest p more b c in
     (same.0, moved (λ x. IsPending x w) rest more same.1 pending)
 
--- a line that begins with a process word isn't idle, and is no `stat`
+-- a line that begins with a process variable isn't idle, and is no `stat`
 process_not_idle : (line p rest : List ℕ) → BeginsWithProcess line p rest → ¬ IsIdle line
 process_not_idle line [] rest b idle = absurd b.0.0
-process_not_idle line (c ∷ cs) rest (word, f) (inl e) = cc
-process_not_idle line (c ∷ cs) rest (word, f) (inr (comment, e)) =
-    let head : c ≡ 0x23 = cc in not_sharp c word.0.0 head
+process_not_idle line (c ∷ cs) rest (variable, f) (inl e) = cc
+process_not_idle line (c ∷ cs) rest (variable, f) (inr (comment, e)) =
+    let head : c ≡ 0x23 = cc in not_sharp c variable.0.0 head
   where
     not_sharp : (c : ℕ) → IsAsciiAlphabetic c → c ≢ 0x23
     not_sharp c (inl h) e = omega arith
@@ -256,7 +256,7 @@ place_has_text : (bytes : List ℕ) (p : PlaceForm (List ℕ)) (rest : List ℕ)
 place_has_text bytes (Named n) rest b = name_has_text bytes n rest b
 place_has_text bytes Unnamed rest b = tt
 
-ends_have_text : (bytes : List ℕ) (a : ℕ) (t w : List ℕ) → IsFlagsTextAndWord bytes a t w → IsText t
+ends_have_text : (bytes : List ℕ) (a : ℕ) (t w : List ℕ) → IsFlagsTextAndVariable bytes a t w → IsText t
 ends_have_text bytes a t w (rest, more, f, b, s) = b.0
 
 request_has_texts : (bytes : List ℕ) (r : Request (List ℕ)) → IsOperands bytes r → HasTexts r

@@ -8,7 +8,7 @@ use Rattle.ob_parts.specs.declared.sort.PartForm.TheVariants as part
 use Rattle.ob_parts.specs.declared.sort.LastForm.{LastForm}
 use Rattle.ob_parts.specs.declared.sort.LastForm.TheVariants as last
 use Rattle.ob_parts.specs.Text.{Lacks}
-use Rattle.ob_parts.specs.Parts.{BeginsWithProcess, IsFlagsAndWord, IsFlagsTextAndWord, IsNameFlagsAndWord, IsWantNameFlagsAndWord, IsPlaceFlagsTextAndWord}
+use Rattle.ob_parts.specs.Parts.{BeginsWithProcess, IsFlagsAndVariable, IsFlagsTextAndVariable, IsNameFlagsAndVariable, IsWantNameFlagsAndVariable, IsPlaceFlagsTextAndVariable}
 use Rattle.ob_parts.specs.Stops.{AreParts}
 use Rattle.ob_parts.proofs.Cuts.{lacks_no_cut}
 use Rattle.ob_parts.proofs.Flagged.{lacks_from_test}
@@ -48,48 +48,48 @@ no_sorts_alone bytes lacks none word operands sorts (inl e) s = lacks_no_cut 0x2
 no_sorts_alone bytes lacks none word operands sorts (inr (e, o)) s = none sorts (moved (λ x. HasSorts x sorts) bytes word e s)
 
 -- parts after one another that several forms have
-flags_word : (bytes : List ℕ) → AreParts (part.Flags ∷ []) last.SetsVariable bytes → (a : ℕ) × (w : List ℕ) × IsFlagsAndWord bytes a w
-flags_word bytes (r, (a, b), (w, s)) = (a, w, (r, b, s))
+flags_variable : (bytes : List ℕ) → AreParts (part.Flags ∷ []) last.SetsVariable bytes → (a : ℕ) × (w : List ℕ) × IsFlagsAndVariable bytes a w
+flags_variable bytes (r, (a, b), (w, s)) = (a, w, (r, b, s))
 
-flags_text_word : (bytes : List ℕ) → AreParts (part.Flags ∷ part.Text ∷ []) last.SetsVariable bytes → (a : ℕ) × (t : List ℕ) × (w : List ℕ) × IsFlagsTextAndWord bytes a t w
-flags_text_word bytes (r, (a, b), (m, (t, c), (w, s))) = (a, t, w, (r, m, b, c, s))
+flags_text_variable : (bytes : List ℕ) → AreParts (part.Flags ∷ part.Text ∷ []) last.SetsVariable bytes → (a : ℕ) × (t : List ℕ) × (w : List ℕ) × IsFlagsTextAndVariable bytes a t w
+flags_text_variable bytes (r, (a, b), (m, (t, c), (w, s))) = (a, t, w, (r, m, b, c, s))
 
-name_flags_word : (bytes : List ℕ) → AreParts (part.Name ∷ part.Flags ∷ []) last.SetsVariable bytes
-    → (n : NameForm (List ℕ)) × (a : ℕ) × (w : List ℕ) × IsNameFlagsAndWord bytes n a w
-name_flags_word bytes (r, (n, b), f) = let e = flags_word r f in (n, e.0, e.1, (r, b, e.2))
+name_flags_variable : (bytes : List ℕ) → AreParts (part.Name ∷ part.Flags ∷ []) last.SetsVariable bytes
+    → (n : NameForm (List ℕ)) × (a : ℕ) × (w : List ℕ) × IsNameFlagsAndVariable bytes n a w
+name_flags_variable bytes (r, (n, b), f) = let e = flags_variable r f in (n, e.0, e.1, (r, b, e.2))
 
-want_name_flags_word : (bytes : List ℕ) → AreParts (part.Want ∷ part.Name ∷ part.Flags ∷ []) last.SetsVariable bytes
-    → (k : Option KindForm) × (n : NameForm (List ℕ)) × (a : ℕ) × (w : List ℕ) × IsWantNameFlagsAndWord bytes k n a w
-want_name_flags_word bytes (r, (k, b), f) = let e = name_flags_word r f in (k, e.0, e.1, e.2, (r, b, e.3))
+want_name_flags_variable : (bytes : List ℕ) → AreParts (part.Want ∷ part.Name ∷ part.Flags ∷ []) last.SetsVariable bytes
+    → (k : Option KindForm) × (n : NameForm (List ℕ)) × (a : ℕ) × (w : List ℕ) × IsWantNameFlagsAndVariable bytes k n a w
+want_name_flags_variable bytes (r, (k, b), f) = let e = name_flags_variable r f in (k, e.0, e.1, e.2, (r, b, e.3))
 
-place_flags_text_word : (bytes : List ℕ) → AreParts (part.Place ∷ part.Flags ∷ part.Text ∷ []) last.SetsVariable bytes
-    → (p : PlaceForm (List ℕ)) × (a : ℕ) × (t : List ℕ) × (w : List ℕ) × IsPlaceFlagsTextAndWord bytes p a t w
-place_flags_text_word bytes (r, (p, b), f) = let e = flags_text_word r f in (p, e.0, e.1, e.2, (r, b, e.3))
+place_flags_text_variable : (bytes : List ℕ) → AreParts (part.Place ∷ part.Flags ∷ part.Text ∷ []) last.SetsVariable bytes
+    → (p : PlaceForm (List ℕ)) × (a : ℕ) × (t : List ℕ) × (w : List ℕ) × IsPlaceFlagsTextAndVariable bytes p a t w
+place_flags_text_variable bytes (r, (p, b), f) = let e = flags_text_variable r f in (p, e.0, e.1, e.2, (r, b, e.3))
 
 -- parts of these sorts are the operands of a request of this verb
 abbrev Reads : Verb → List ℕ → Sorts → Type 0
 Reads v bytes sorts = AreParts sorts.0 sorts.1 bytes → (r : Request (List ℕ)) × (verb_of r ≡ v) × IsOperands bytes r
 
 dir_reads : (bytes : List ℕ) → Reads verb.Dir bytes (part.Place ∷ part.Flags ∷ [], last.SetsVariable)
-dir_reads bytes (r, (p, b), f) = let e = flags_word r f in (CreateDirectory p e.0 e.1, refl, (r, b, e.2))
+dir_reads bytes (r, (p, b), f) = let e = flags_variable r f in (CreateDirectory p e.0 e.1, refl, (r, b, e.2))
 
 shadow_reads : (bytes : List ℕ) → Reads verb.Shadow bytes (part.Handle ∷ part.Place ∷ part.Flags ∷ [], last.SetsVariable)
-shadow_reads bytes (r, (h, b), (m, (p, c), f)) = let e = flags_word m f in (CreateShadowed h p e.0 e.1, refl, (r, m, b, c, e.2))
+shadow_reads bytes (r, (h, b), (m, (p, c), f)) = let e = flags_variable m f in (CreateShadowed h p e.0 e.1, refl, (r, m, b, c, e.2))
 
 link_reads : (bytes : List ℕ) → Reads verb.Link bytes (part.Place ∷ part.Flags ∷ part.Text ∷ [], last.SetsVariable)
-link_reads bytes f = let e = place_flags_text_word bytes f in (CreateLink e.0 e.1 e.2 e.3, refl, e.4)
+link_reads bytes f = let e = place_flags_text_variable bytes f in (CreateLink e.0 e.1 e.2 e.3, refl, e.4)
 
 make_reads : (bytes : List ℕ) → Reads verb.Make bytes (part.Kind ∷ part.Place ∷ part.Flags ∷ part.Text ∷ [], last.SetsVariable)
-make_reads bytes (r, (k, b), f) = let e = place_flags_text_word r f in (CreateObject k e.0 e.1 e.2 e.3, refl, (r, b, e.4))
+make_reads bytes (r, (k, b), f) = let e = place_flags_text_variable r f in (CreateObject k e.0 e.1 e.2 e.3, refl, (r, b, e.4))
 
 opendir_reads : (bytes : List ℕ) → Reads verb.OpenDir bytes (part.Name ∷ part.Flags ∷ [], last.SetsVariable)
-opendir_reads bytes f = let e = name_flags_word bytes f in (OpenDirectory e.0 e.1 e.2, refl, e.3)
+opendir_reads bytes f = let e = name_flags_variable bytes f in (OpenDirectory e.0 e.1 e.2, refl, e.3)
 
 openlink_reads : (bytes : List ℕ) → Reads verb.OpenLink bytes (part.Name ∷ part.Flags ∷ [], last.SetsVariable)
-openlink_reads bytes f = let e = name_flags_word bytes f in (OpenLink e.0 e.1 e.2, refl, e.3)
+openlink_reads bytes f = let e = name_flags_variable bytes f in (OpenLink e.0 e.1 e.2, refl, e.3)
 
 open_reads : (bytes : List ℕ) → Reads verb.Open bytes (part.Want ∷ part.Name ∷ part.Flags ∷ [], last.SetsVariable)
-open_reads bytes f = let e = want_name_flags_word bytes f in (OpenObject e.0 e.1 e.2 e.3, refl, e.4)
+open_reads bytes f = let e = want_name_flags_variable bytes f in (OpenObject e.0 e.1 e.2 e.3, refl, e.4)
 
 list_reads : (bytes : List ℕ) → Reads verb.List bytes (part.Handle ∷ part.Room ∷ [], last.Mode)
 list_reads bytes (r, (h, b), (m, (n, c), (mode, s))) = (QueryDirectory h n mode, refl, (r, m, b, c, s))
@@ -130,7 +130,7 @@ has_form line process bytes word operands sorts short b e (inl (v, f, s)) parts 
     (Asks process reads.0, (bytes, b, inr (request_joined bytes word operands v reads.0 e f reads.1 reads.2), short))
 has_form line process bytes word operands sorts short b e (inr (inl (f, s))) parts =
     let own : AreParts (part.Want ∷ part.Name ∷ part.Flags ∷ []) last.SetsVariable operands = subst (λ (x : Sorts). AreParts x.0 x.1 operands) s parts in
-    let reads = want_name_flags_word operands own in
+    let reads = want_name_flags_variable operands own in
     (Waits process (Begin reads.0 reads.1 reads.2 reads.3), (bytes, b, (operands, e ∙ ap (λ w. w ++ (0x20 ∷ operands)) f, reads.4), short))
 has_form line process bytes word operands sorts short b e (inr (inr (inl f, s))) parts =
     let own : AreParts [] last.Variable operands = subst (λ (x : Sorts). AreParts x.0 x.1 operands) s parts in

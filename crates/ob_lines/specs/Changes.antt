@@ -10,18 +10,18 @@ use Rattle.ob_lines.specs.declared.request.Request.TheVariants.{CreateDirectory,
 
 -- what the reply to a request changes
 abbrev pub change_of : Request (List ℕ) → Change (List ℕ)
-change_of (CreateDirectory place attrs word) = Sets word
-change_of (CreateShadowed shadow place attrs word) = Sets word
-change_of (CreateLink place attrs target word) = Sets word
-change_of (CreateObject kind place attrs args word) = Sets word
-change_of (OpenDirectory name attrs word) = Sets word
-change_of (OpenLink name attrs word) = Sets word
-change_of (OpenObject want name attrs word) = Sets word
-change_of (Close handle) = GivesUp handle.word
+change_of (CreateDirectory place attrs variable) = Sets variable
+change_of (CreateShadowed shadow place attrs variable) = Sets variable
+change_of (CreateLink place attrs target variable) = Sets variable
+change_of (CreateObject kind place attrs args variable) = Sets variable
+change_of (OpenDirectory name attrs variable) = Sets variable
+change_of (OpenLink name attrs variable) = Sets variable
+change_of (OpenObject want name attrs variable) = Sets variable
+change_of (Close handle) = GivesUp handle.variable
 change_of (QueryLink handle) = Nothing
 change_of (QueryName handle) = Nothing
-change_of (QueryDirectory handle room mode) = TurnsPage handle.word
-change_of (Duplicate handle to inherit word) = SetsFor to word
+change_of (QueryDirectory handle room mode) = TurnsPage handle.variable
+change_of (Duplicate handle to inherit variable) = SetsFor to variable
 change_of (MakeTemporary handle) = Nothing
 change_of (MakePermanent handle) = Nothing
 change_of (SetDeviceMap handle) = Nothing
@@ -31,9 +31,9 @@ change_of ExitProcess = GivesAllUp
 -- a change, whose slices of bytes are seen as the lists that they hold
 abbrev pub change_seen : Change (Bor (List ℕ)) → Change (List ℕ)
 change_seen Nothing = Nothing
-change_seen (Sets word) = Sets word.now
-change_seen (SetsFor process word) = SetsFor process.now word.now
-change_seen (GivesUp word) = GivesUp word.now
-change_seen (TurnsPage word) = TurnsPage word.now
+change_seen (Sets variable) = Sets variable.now
+change_seen (SetsFor process variable) = SetsFor process.now variable.now
+change_seen (GivesUp variable) = GivesUp variable.now
+change_seen (TurnsPage variable) = TurnsPage variable.now
 change_seen GivesAllUp = GivesAllUp
 change_seen (SetsProcess process inherit) = SetsProcess process.now inherit

@@ -21,7 +21,7 @@ pub enum Change<T> {
         /// The process variable.
         process: T,
         /// The handle variable.
-        word: T,
+        variable: T,
     },
     /// `H` of a `close`: this handle variable of the requesting process is set to 0 where the reply is SUCCESS,
     /// whatever was added to its value.
@@ -47,18 +47,21 @@ pub fn change_of<'a>(request: &Request<&'a [u8]>) -> Change<&'a [u8]>
     ensures { change_seen result ≡ change_of (request_seen request.now) }
 {
     match *request {
-        Request::CreateDirectory { word, .. } => Change::Sets(word),
-        Request::CreateShadowed { word, .. } => Change::Sets(word),
-        Request::CreateLink { word, .. } => Change::Sets(word),
-        Request::CreateObject { word, .. } => Change::Sets(word),
-        Request::OpenDirectory { word, .. } => Change::Sets(word),
-        Request::OpenLink { word, .. } => Change::Sets(word),
-        Request::OpenObject { word, .. } => Change::Sets(word),
-        Request::Close { handle } => Change::GivesUp(handle.word),
+        Request::CreateDirectory { variable, .. } => Change::Sets(variable),
+        Request::CreateShadowed { variable, .. } => Change::Sets(variable),
+        Request::CreateLink { variable, .. } => Change::Sets(variable),
+        Request::CreateObject { variable, .. } => Change::Sets(variable),
+        Request::OpenDirectory { variable, .. } => Change::Sets(variable),
+        Request::OpenLink { variable, .. } => Change::Sets(variable),
+        Request::OpenObject { variable, .. } => Change::Sets(variable),
+        Request::Close { handle } => Change::GivesUp(handle.variable),
         Request::QueryLink { .. } => Change::Nothing,
         Request::QueryName { .. } => Change::Nothing,
-        Request::QueryDirectory { handle, .. } => Change::TurnsPage(handle.word),
-        Request::Duplicate { to, word, .. } => Change::SetsFor { process: to, word },
+        Request::QueryDirectory { handle, .. } => Change::TurnsPage(handle.variable),
+        Request::Duplicate { to, variable, .. } => Change::SetsFor {
+            process: to,
+            variable,
+        },
         Request::MakeTemporary { .. } => Change::Nothing,
         Request::MakePermanent { .. } => Change::Nothing,
         Request::SetDeviceMap { .. } => Change::Nothing,

@@ -4,7 +4,7 @@ ghost use Rattle.std.specs.Prelude.{◌≡◌, ◌≤◌, ℕ, List, length, IfS
 ghost use Rattle.ob_lines.specs.declared.pending.PendingForm.{PendingForm};
 ghost use Rattle.ob_lines.specs.Grammar.{IsPending, pending_seen};
 
-use ob_parts::{KindForm, NameForm, behind, is_word, want_name_flags_and_word};
+use ob_parts::{KindForm, NameForm, behind, is_variable, want_name_flags_and_variable};
 
 /// What a line does with a pending open. `T` is how bytes are held: as slices of the
 /// line, or, in contracts, as lists. (this profile)
@@ -19,17 +19,17 @@ pub enum PendingForm<T> {
         /// The attribute flags, as raw bits.
         attrs: u32,
         /// The handle variable under which the open is pending, and which its end sets.
-        word: T,
+        variable: T,
     },
     /// `end V`: the parse of the pending open under a handle variable is run, and the open resumed.
     End {
         /// The handle variable.
-        word: T,
+        variable: T,
     },
     /// `drop V`: the pending open under a handle variable is abandoned, and its parse not run.
     Drop {
         /// The handle variable.
-        word: T,
+        variable: T,
     },
 }
 
@@ -41,23 +41,23 @@ pub fn pending_of(bytes: &[u8]) -> Option<PendingForm<&[u8]>>
         → ¬ IsPending bytes.now pending) }
 {
     if let Some(operands) = behind(bytes, b"begin ") {
-        let (want, name, attrs, word) = want_name_flags_and_word(operands)?;
+        let (want, name, attrs, variable) = want_name_flags_and_variable(operands)?;
         return Some(PendingForm::Begin {
             want,
             name,
             attrs,
-            word,
+            variable,
         });
     }
-    if let Some(word) = behind(bytes, b"end ") {
-        if !is_word(word) {
+    if let Some(variable) = behind(bytes, b"end ") {
+        if !is_variable(variable) {
             return None;
         }
-        return Some(PendingForm::End { word });
+        return Some(PendingForm::End { variable });
     }
-    let word = behind(bytes, b"drop ")?;
-    if !is_word(word) {
+    let variable = behind(bytes, b"drop ")?;
+    if !is_variable(variable) {
         return None;
     }
-    Some(PendingForm::Drop { word })
+    Some(PendingForm::Drop { variable })
 }

@@ -12,10 +12,10 @@ ghost use Rattle.ob_lines.specs.Grammar.{IsOperands, IsRequest, IsVerbAndOperand
 
 use crate::verb::{Verb, verb_of};
 use ob_parts::{
-    HandleForm, KindForm, NameForm, PageMode, PlaceForm, flags_and_word, handle_of, mode_of,
-    name_flags_and_word, place_flags_text_and_word, process_set, split_at, take_handle,
-    take_inherit, take_kind, take_place, take_process, take_room, want_name_flags_and_word,
-    word_set,
+    HandleForm, KindForm, NameForm, PageMode, PlaceForm, flags_and_variable, handle_of, mode_of,
+    name_flags_and_variable, place_flags_text_and_variable, process_set, split_at, take_handle,
+    take_inherit, take_kind, take_place, take_process, take_room, variable_set,
+    want_name_flags_and_variable,
 };
 
 /// A request: what a process does in a line. `T` is how bytes are held: as slices of the line, or, in
@@ -29,7 +29,7 @@ pub enum Request<T> {
         /// The attribute flags, as raw bits.
         attrs: u32,
         /// The handle variable that is set.
-        word: T,
+        variable: T,
     },
     /// `shadow H PLACE FLAGS =V`: a new directory with a shadow.
     CreateShadowed {
@@ -40,7 +40,7 @@ pub enum Request<T> {
         /// The attribute flags, as raw bits.
         attrs: u32,
         /// The handle variable that is set.
-        word: T,
+        variable: T,
     },
     /// `link PLACE FLAGS TEXT =V`: a new symbolic link.
     CreateLink {
@@ -51,7 +51,7 @@ pub enum Request<T> {
         /// The text that spells the link's target.
         target: T,
         /// The handle variable that is set.
-        word: T,
+        variable: T,
     },
     /// `make KIND PLACE FLAGS TEXT =V`: a new object.
     CreateObject {
@@ -64,7 +64,7 @@ pub enum Request<T> {
         /// The text that spells the object's arguments.
         args: T,
         /// The handle variable that is set.
-        word: T,
+        variable: T,
     },
     /// `opendir NAME FLAGS =V`: a handle to a directory.
     OpenDirectory {
@@ -73,7 +73,7 @@ pub enum Request<T> {
         /// The attribute flags, as raw bits.
         attrs: u32,
         /// The handle variable that is set.
-        word: T,
+        variable: T,
     },
     /// `openlink NAME FLAGS =V`: a handle to a symbolic link, which isn't followed.
     OpenLink {
@@ -82,7 +82,7 @@ pub enum Request<T> {
         /// The attribute flags, as raw bits.
         attrs: u32,
         /// The handle variable that is set.
-        word: T,
+        variable: T,
     },
     /// `open WANT NAME FLAGS =V`: a handle to an object.
     OpenObject {
@@ -93,7 +93,7 @@ pub enum Request<T> {
         /// The attribute flags, as raw bits.
         attrs: u32,
         /// The handle variable that is set.
-        word: T,
+        variable: T,
     },
     /// `close H`: a handle is closed.
     Close {
@@ -129,7 +129,7 @@ pub enum Request<T> {
         /// Whether the new handle can be inherited.
         inherit: bool,
         /// The handle variable that is set, which is one of the process `to`.
-        word: T,
+        variable: T,
     },
     /// `temp H`: the object of a handle is made temporary.
     MakeTemporary {
@@ -227,12 +227,16 @@ fn directory_of(operands: &[u8]) -> Option<Request<&[u8]>>
     requires { length operands.now ≤ 262144 }
     ensures verb { IfSome result (λ request. verb_of (request_seen request) ≡ Verb.Dir) }
     ensures found { IfSome result (λ request. IsOperands operands.now (request_seen request)) }
-    ensures none { IfNone result ((place : PlaceForm (List ℕ)) (attrs : ℕ) (word : List ℕ)
-        → ¬ IsOperands operands.now (Request.CreateDirectory place attrs word)) }
+    ensures none { IfNone result ((place : PlaceForm (List ℕ)) (attrs : ℕ) (variable : List ℕ)
+        → ¬ IsOperands operands.now (Request.CreateDirectory place attrs variable)) }
 {
     let (place, rest) = take_place(operands)?;
-    let (attrs, word) = flags_and_word(rest)?;
-    Some(Request::CreateDirectory { place, attrs, word })
+    let (attrs, variable) = flags_and_variable(rest)?;
+    Some(Request::CreateDirectory {
+        place,
+        attrs,
+        variable,
+    })
 }
 
 // The create of a directory with a shadow: `H PLACE FLAGS =V`.
@@ -241,17 +245,17 @@ fn shadowed_of(operands: &[u8]) -> Option<Request<&[u8]>>
     ensures verb { IfSome result (λ request. verb_of (request_seen request) ≡ Verb.Shadow) }
     ensures found { IfSome result (λ request. IsOperands operands.now (request_seen request)) }
     ensures none { IfNone result ((shadow : HandleForm (List ℕ)) (place : PlaceForm (List ℕ))
-        (attrs : ℕ) (word : List ℕ)
-        → ¬ IsOperands operands.now (Request.CreateShadowed shadow place attrs word)) }
+        (attrs : ℕ) (variable : List ℕ)
+        → ¬ IsOperands operands.now (Request.CreateShadowed shadow place attrs variable)) }
 {
     let (shadow, rest) = take_handle(operands)?;
     let (place, rest) = take_place(rest)?;
-    let (attrs, word) = flags_and_word(rest)?;
+    let (attrs, variable) = flags_and_variable(rest)?;
     Some(Request::CreateShadowed {
         shadow,
         place,
         attrs,
-        word,
+        variable,
     })
 }
 
@@ -260,15 +264,15 @@ fn link_of(operands: &[u8]) -> Option<Request<&[u8]>>
     requires { length operands.now ≤ 262144 }
     ensures verb { IfSome result (λ request. verb_of (request_seen request) ≡ Verb.Link) }
     ensures found { IfSome result (λ request. IsOperands operands.now (request_seen request)) }
-    ensures none { IfNone result ((place : PlaceForm (List ℕ)) (attrs : ℕ) (target word : List ℕ)
-        → ¬ IsOperands operands.now (Request.CreateLink place attrs target word)) }
+    ensures none { IfNone result ((place : PlaceForm (List ℕ)) (attrs : ℕ) (target variable : List ℕ)
+        → ¬ IsOperands operands.now (Request.CreateLink place attrs target variable)) }
 {
-    let (place, attrs, target, word) = place_flags_text_and_word(operands)?;
+    let (place, attrs, target, variable) = place_flags_text_and_variable(operands)?;
     Some(Request::CreateLink {
         place,
         attrs,
         target,
-        word,
+        variable,
     })
 }
 
@@ -278,17 +282,17 @@ fn object_of(operands: &[u8]) -> Option<Request<&[u8]>>
     ensures verb { IfSome result (λ request. verb_of (request_seen request) ≡ Verb.Make) }
     ensures found { IfSome result (λ request. IsOperands operands.now (request_seen request)) }
     ensures none { IfNone result ((kind : KindForm) (place : PlaceForm (List ℕ)) (attrs : ℕ)
-        (args word : List ℕ)
-        → ¬ IsOperands operands.now (Request.CreateObject kind place attrs args word)) }
+        (args variable : List ℕ)
+        → ¬ IsOperands operands.now (Request.CreateObject kind place attrs args variable)) }
 {
     let (kind, rest) = take_kind(operands)?;
-    let (place, attrs, args, word) = place_flags_text_and_word(rest)?;
+    let (place, attrs, args, variable) = place_flags_text_and_variable(rest)?;
     Some(Request::CreateObject {
         kind,
         place,
         attrs,
         args,
-        word,
+        variable,
     })
 }
 
@@ -297,11 +301,15 @@ fn open_directory_of(operands: &[u8]) -> Option<Request<&[u8]>>
     requires { length operands.now ≤ 262144 }
     ensures verb { IfSome result (λ request. verb_of (request_seen request) ≡ Verb.OpenDir) }
     ensures found { IfSome result (λ request. IsOperands operands.now (request_seen request)) }
-    ensures none { IfNone result ((name : NameForm (List ℕ)) (attrs : ℕ) (word : List ℕ)
-        → ¬ IsOperands operands.now (Request.OpenDirectory name attrs word)) }
+    ensures none { IfNone result ((name : NameForm (List ℕ)) (attrs : ℕ) (variable : List ℕ)
+        → ¬ IsOperands operands.now (Request.OpenDirectory name attrs variable)) }
 {
-    let (name, attrs, word) = name_flags_and_word(operands)?;
-    Some(Request::OpenDirectory { name, attrs, word })
+    let (name, attrs, variable) = name_flags_and_variable(operands)?;
+    Some(Request::OpenDirectory {
+        name,
+        attrs,
+        variable,
+    })
 }
 
 // The open of a symbolic link: `NAME FLAGS =V`.
@@ -309,11 +317,15 @@ fn open_link_of(operands: &[u8]) -> Option<Request<&[u8]>>
     requires { length operands.now ≤ 262144 }
     ensures verb { IfSome result (λ request. verb_of (request_seen request) ≡ Verb.OpenLink) }
     ensures found { IfSome result (λ request. IsOperands operands.now (request_seen request)) }
-    ensures none { IfNone result ((name : NameForm (List ℕ)) (attrs : ℕ) (word : List ℕ)
-        → ¬ IsOperands operands.now (Request.OpenLink name attrs word)) }
+    ensures none { IfNone result ((name : NameForm (List ℕ)) (attrs : ℕ) (variable : List ℕ)
+        → ¬ IsOperands operands.now (Request.OpenLink name attrs variable)) }
 {
-    let (name, attrs, word) = name_flags_and_word(operands)?;
-    Some(Request::OpenLink { name, attrs, word })
+    let (name, attrs, variable) = name_flags_and_variable(operands)?;
+    Some(Request::OpenLink {
+        name,
+        attrs,
+        variable,
+    })
 }
 
 // The open of an object: `WANT NAME FLAGS =V`.
@@ -322,15 +334,15 @@ fn open_object_of(operands: &[u8]) -> Option<Request<&[u8]>>
     ensures verb { IfSome result (λ request. verb_of (request_seen request) ≡ Verb.Open) }
     ensures found { IfSome result (λ request. IsOperands operands.now (request_seen request)) }
     ensures none { IfNone result ((want : Option KindForm) (name : NameForm (List ℕ)) (attrs : ℕ)
-        (word : List ℕ)
-        → ¬ IsOperands operands.now (Request.OpenObject want name attrs word)) }
+        (variable : List ℕ)
+        → ¬ IsOperands operands.now (Request.OpenObject want name attrs variable)) }
 {
-    let (want, name, attrs, word) = want_name_flags_and_word(operands)?;
+    let (want, name, attrs, variable) = want_name_flags_and_variable(operands)?;
     Some(Request::OpenObject {
         want,
         name,
         attrs,
-        word,
+        variable,
     })
 }
 
@@ -352,18 +364,18 @@ fn duplicate_of(operands: &[u8]) -> Option<Request<&[u8]>>
     ensures verb { IfSome result (λ request. verb_of (request_seen request) ≡ Verb.Dup) }
     ensures found { IfSome result (λ request. IsOperands operands.now (request_seen request)) }
     ensures none { IfNone result ((handle : HandleForm (List ℕ)) (to : List ℕ) (inherit : Bool)
-        (word : List ℕ)
-        → ¬ IsOperands operands.now (Request.Duplicate handle to inherit word)) }
+        (variable : List ℕ)
+        → ¬ IsOperands operands.now (Request.Duplicate handle to inherit variable)) }
 {
     let (handle, rest) = take_handle(operands)?;
     let (to, rest) = take_process(rest)?;
     let (inherit, rest) = take_inherit(rest)?;
-    let word = word_set(rest)?;
+    let variable = variable_set(rest)?;
     Some(Request::Duplicate {
         handle,
         to,
         inherit,
-        word,
+        variable,
     })
 }
 

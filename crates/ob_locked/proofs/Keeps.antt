@@ -1,11 +1,11 @@
--- What lies under the lock keeps what holds of it, step for step.
+-- What is under the lock keeps what holds of it, step for step.
 use Rattle.std.proofs.Common.{◌≡◌, ◌∙◌, ℕ, ◌+◌, ◌*◌, ◌^◌, ◌-◌, ◌<◌, ◌≤◌, ◌==◌, not, List, [], ◌∷◌, ◌++◌, length, filter, Option, None, Some, MatchOption, Result, Ok, Err, OnOk, OnErr, inr, refl, ap, sym, subst, arith, append_assoc, append-nil, length-append}
 use Rattle.std.specs.Option.{option_map_or}
 use Rattle.ob_model.specs.declared.reply.Answer.{Answer}
 use Rattle.ob_model.specs.declared.reply.Answer.TheVariants.{Done, Ticket}
 use Rattle.ob_model.specs.declared.reply.Event.{Event}
 use Rattle.ob_model.specs.declared.reply.Reply.{Reply}
-use Rattle.ob_model.specs.declared.state.Pending.{Pending}
+use Rattle.ob_model.specs.declared.state.PendingOpen.{PendingOpen}
 use Rattle.ob_model.specs.Opening.{opening}
 use Rattle.ob_model.specs.PendingOpens.{pending_of}
 use Rattle.ob_model.specs.Procedures.{Procedures}
@@ -14,7 +14,7 @@ use Rattle.ob_model.specs.State.{State}
 use Rattle.ob_model.specs.Step.{Step}
 use Rattle.ob_model.proofs.Runs.{run_sound}
 use Rattle.ob_opens.proofs.BegunAgain.{last_found}
-use Rattle.ob_journal.specs.Segments.{Segment, AreSealed, joined, most_entries, most_sealed, open_after}
+use Rattle.ob_entries.specs.Segments.{Segment, AreSealed, joined, most_entries, most_sealed, open_after}
 use Rattle.ob_segments.specs.Journal.{Journal, Placed, whole, with_entry, with_seal, open_segment}
 use Rattle.ob_locked.specs.Entered.{entered, HasFew, PendingAfter, EndedAfter}
 use Rattle.ob_locked.specs.Locked.{History, IsKept}
@@ -28,16 +28,16 @@ use Rattle.ob_locked.specs.Places.{places_for, places_of, places_of_start}
 use Rattle.ob_locked.proofs.Placed.{places-push, places-without, run_on}
 
 -- the places of the newest open
-pub newest_places : {K T F I : Type 0} (t : State K T F I) (m : ℕ) (before : List (Pending K)) (Few : ℕ → Type 0) → PendingAfter Few before (Ticket m) t.pending
-    → (y : Pending K) × (places_of t m ≡ y.left + 1) × (places_for t.pending ≡ places_for before + (y.left + 1)) × Few y.left
+pub newest_places : {K T F I : Type 0} (t : State K T F I) (m : ℕ) (before : List (PendingOpen K)) (Few : ℕ → Type 0) → PendingAfter Few before (Ticket m) t.pending
+    → (y : PendingOpen K) × (places_of t m ≡ y.left + 1) × (places_for t.pending ≡ places_for before + (y.left + 1)) × Few y.left
 newest_places {K} t m before Few (y, after, ticket, few, below) = (
   y,
-  ap (λ (xs : List (Pending K)). option_map_or (λ (x : Pending K). x.left + 1) (find_under xs) 0) after ∙ ap (λ (o : Option (Pending K)). option_map_or (λ x. x.left + 1) o 0) (last_found m y before below ticket),
+  ap (λ (xs : List (PendingOpen K)). option_map_or (λ (x : PendingOpen K). x.left + 1) (find_under xs) 0) after ∙ ap (λ (o : Option (PendingOpen K)). option_map_or (λ x. x.left + 1) o 0) (last_found m y before below ticket),
   ap places_for after ∙ places-push before y,
   few,
 )
   where
-    find_under : List (Pending K) → Option (Pending K)
+    find_under : List (PendingOpen K) → Option (PendingOpen K)
     find_under xs = pending_of (record t { pending = xs }) m
 
 -- sealed segments have at most so many entries
@@ -46,7 +46,7 @@ joined_few number first [] sealed = omega arith
 joined_few number first (s ∷ ss) (own, begins, some, few, sealed) =
     omega (arith, length-append s.entries (joined ss), few, joined_few (number + 1) (first + length s.entries) ss sealed)
 
--- sealed segments with one more have its entries behind theirs
+-- sealed segments with one more have its entries after theirs
 pub joined_on : {K : Type 0} (ss : List (Segment K)) (s : Segment K) → joined (ss ++ s ∷ []) ≡ joined ss ++ s.entries
 joined_on [] s = append-nil s.entries
 joined_on (x ∷ ss) s = ap (λ l. x.entries ++ l) (joined_on ss s) ∙ sym (append_assoc x.entries (joined ss) s.entries)
@@ -87,7 +87,7 @@ module _ {K T F I : Type 0} (g : Procedures K T F I) (h : History K T F I) (plac
     counted = kept.counted ∙ ap length (sym (sealed_whole h.journal));
   }
 
-  -- behind a step whose entry was added
+  -- after a step whose entry was added
   module _ (t : State K T F I) (event : Event K) (answer : Answer) (number seat : ℕ) (e : Entry K) (js : Journal K) (step : Step g h.state event answer t)
       (is : e ≡ entered number seat event answer) (next : number ≡ length (whole h.journal) + 1) (added : js ≡ with_entry h.journal e) where
     grown : whole js ≡ whole h.journal ++ e ∷ []
@@ -134,19 +134,19 @@ module _ {K T F I : Type 0} (g : Procedures K T F I) (h : History K T F I) (plac
       -- the open that waited
       abbrev Waited : Type 0
       Waited =
-          (x : Pending K) × (places_of h.state ticket ≡ x.left + 1)
+          (x : PendingOpen K) × (places_of h.state ticket ≡ x.left + 1)
           × (places ≡ x.left + 1 + places_for (filter (λ y. not (y.ticket == ticket)) h.state.pending))
           × PendingAfter (λ n. n < x.left) (filter (λ y. not (y.ticket == ticket)) h.state.pending) answer t.pending
 
       waited : Waited
       waited = go (pending_of h.state ticket) refl ended
         where
-          go : (found : Option (Pending K)) → pending_of h.state ticket ≡ found
+          go : (found : Option (PendingOpen K)) → pending_of h.state ticket ≡ found
               → MatchOption found ⊥ (λ x. PendingAfter (λ n. n < x.left) (filter (λ y. not (y.ticket == ticket)) h.state.pending) answer t.pending) → Waited
           go None e after = absurd after
           go (Some x) e after = (
             x,
-            ap (λ (o : Option (Pending K)). option_map_or (λ y. y.left + 1) o 0) e,
+            ap (λ (o : Option (PendingOpen K)). option_map_or (λ y. y.left + 1) o 0) e,
             kept.reserved ∙ places-without ticket h.state.pending x (run_sound g h.first (whole h.journal) h.state kept.run).pending.awaited e,
             after,
           )

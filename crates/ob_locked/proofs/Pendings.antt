@@ -17,7 +17,7 @@ use Rattle.ob_model.specs.declared.reply.ParseRun.{ParseRun}
 use Rattle.ob_model.specs.declared.state.Body.{Body}
 use Rattle.ob_model.specs.declared.state.Body.TheVariants.{Directory, Link, Other}
 use Rattle.ob_model.specs.declared.state.Held.{Held}
-use Rattle.ob_model.specs.declared.state.Pending.{Pending}
+use Rattle.ob_model.specs.declared.state.PendingOpen.{PendingOpen}
 use Rattle.ob_model.specs.State.{State, is_live, body_of, table_size}
 use Rattle.ob_model.specs.Names.{begins_with_separator}
 use Rattle.ob_model.specs.declared.terms.Mode.{Mode}
@@ -41,7 +41,7 @@ use Rattle.ob_opens.proofs.HandedOn.{HandsOn, looks_hand_on, again_hands_on_fewe
 use Rattle.ob_locked.specs.Entered.{HasFew, PendingAfter, EndedAfter}
 use Rattle.ob_locked.specs.Rooms.{wants_memory, values_given, values_wanted, is_plain}
 use Rattle.ob_locked.proofs.Placed.{found_ticket}
-use Rattle.ob_choices.proofs.Answered.{IsNoChild, HandsFew, start_told, unless_ends_told}
+use Rattle.ob_model.proofs.Answered.{IsNoChild, HandsFew, start_told, unless_ends_told}
 
 -- what is answered with the state t, from the state s: no more than so many values, and a text or a page only where nothing
 -- changed
@@ -193,7 +193,7 @@ module _ {K T F I : Type 0} (g : Procedures K T F I) where
 
   module _ (s : State K T F I) (sound : IsSound s) where
     -- what the open of a ticket leaves and answers that is resumed
-    resumes : (t : State K T F I) (x : Pending K) (outcome : Option (ParseOutcome F I)) (answer : Answer) → Resumes g s x outcome answer t
+    resumes : (t : State K T F I) (x : PendingOpen K) (outcome : Option (ParseOutcome F I)) (answer : Answer) → Resumes g s x outcome answer t
         → PendingAfter (λ n. n < x.left) (filter (λ y. not (y.ticket == x.ticket)) s.pending) answer t.pending × IsPlain answer
     resumes t x outcome answer (v, ends, settles) =
         let led = unless_ends_told g u P (λ n. n < x.left)
@@ -238,7 +238,7 @@ module _ {K T F I : Type 0} (g : Procedures K T F I) where
     pub resumed : (t : State K T F I) (ticket : ℕ) (parse : ParseRun) (answer : Answer) → Step g s (Resume ticket parse) answer t → EndedAfter s.pending ticket answer t.pending × IsPlain answer
     resumed t ticket parse answer (outcome, brought, h) = go (pending_of s ticket) refl h
       where
-        go : (found : Option (Pending K)) → pending_of s ticket ≡ found → MatchOption found ⊥ (λ x. Resumes g s x outcome answer t)
+        go : (found : Option (PendingOpen K)) → pending_of s ticket ≡ found → MatchOption found ⊥ (λ x. Resumes g s x outcome answer t)
             → MatchOption found ⊥ (λ x. PendingAfter (λ n. n < x.left) (filter (λ y. not (y.ticket == ticket)) s.pending) answer t.pending) × IsPlain answer
         go None e h = absurd h
         go (Some x) e h =
@@ -248,7 +248,7 @@ module _ {K T F I : Type 0} (g : Procedures K T F I) where
     pub abandoned : (t : State K T F I) (ticket : ℕ) (parse : ParseRun) → Step g s (Abandon ticket parse) (answers Success) t → EndedAfter s.pending ticket (answers Success) t.pending
     abandoned t ticket parse (outcome, brought, h) = go (pending_of s ticket) refl h
       where
-        go : (found : Option (Pending K)) → pending_of s ticket ≡ found → MatchOption found ⊥ (λ x. Abandons g s x outcome (answers Success) t)
+        go : (found : Option (PendingOpen K)) → pending_of s ticket ≡ found → MatchOption found ⊥ (λ x. Abandons g s x outcome (answers Success) t)
             → MatchOption found ⊥ (λ x. t.pending ≡ filter (λ y. not (y.ticket == ticket)) s.pending)
         go None e h = absurd h
         go (Some x) e h =

@@ -6,7 +6,7 @@ use Rattle.ob_model.specs.declared.reply.Answer.TheVariants.{Done, Ticket}
 use Rattle.std.specs.Prelude.{None}
 use Rattle.ob_model.specs.declared.reply.ParseRun.{ParseRun}
 use Rattle.ob_model.specs.declared.reply.ParseRun.TheVariants.{Unrun}
-use Rattle.ob_types.specs.Brought.{run_of_end}
+use Rattle.ob_types.specs.Pending.{run_of_end}
 use Rattle.ob_types.specs.Parse.{ToRun, HasRun}
 use Rattle.ob_locked.specs.declared.started.Pending.{Pending}
 use Rattle.ob_locked.specs.declared.started.Pending.TheVariants as pending

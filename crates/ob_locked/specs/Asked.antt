@@ -9,7 +9,7 @@ use Rattle.ob_model.specs.declared.reply.Event.{Event}
 use Rattle.ob_model.specs.declared.reply.Event.TheVariants as event
 use Rattle.ob_model.specs.Procedures.{Procedures}
 use Rattle.ob_segments.specs.Journal.{whole}
-use Rattle.ob_types.specs.Brought.{run_of_end}
+use Rattle.ob_types.specs.Pending.{run_of_end}
 use Rattle.ob_types.specs.Parse.{HasRun, asked_of}
 use Rattle.ob_opens.specs.Waiting.{IsAwaited}
 use Rattle.ob_locked.specs.declared.steps.Asked.{Asked}

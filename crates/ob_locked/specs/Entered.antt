@@ -6,7 +6,7 @@ use Rattle.std.specs.List.{find}
 use Rattle.ob_model.specs.declared.reply.Answer.{Answer}
 use Rattle.ob_model.specs.declared.reply.Answer.TheVariants.{Done, Ticket}
 use Rattle.ob_model.specs.declared.reply.Event.{Event}
-use Rattle.ob_model.specs.declared.state.Pending.{Pending}
+use Rattle.ob_model.specs.declared.state.PendingOpen.{PendingOpen}
 use Rattle.ob_model.specs.Looks.{most_reparses}
 use Rattle.ob_model.specs.Run.{Entry}
 
@@ -20,11 +20,11 @@ HasFew n = n ≤ most_reparses
 
 -- the opens that wait after an answer: as they were, or with one more, under the ticket, which is above those of all others,
 -- and which has few reparses left
-abbrev pub PendingAfter : {K : Type 0} → (ℕ → Type 0) → List (Pending K) → Answer → List (Pending K) → Type 0
+abbrev pub PendingAfter : {K : Type 0} → (ℕ → Type 0) → List (PendingOpen K) → Answer → List (PendingOpen K) → Type 0
 PendingAfter Few before (Done reply) after = after ≡ before
-PendingAfter {K} Few before (Ticket m) after = (y : Pending K) × (after ≡ before ++ y ∷ []) × (y.ticket ≡ m) × Few y.left × All (λ z. z.ticket < m) before
+PendingAfter {K} Few before (Ticket m) after = (y : PendingOpen K) × (after ≡ before ++ y ∷ []) × (y.ticket ≡ m) × Few y.left × All (λ z. z.ticket < m) before
 
 -- the same after the end of the open of a ticket: it is pending no longer; or it is pending again with fewer reparses left
-abbrev pub EndedAfter : {K : Type 0} → List (Pending K) → ℕ → Answer → List (Pending K) → Type 0
+abbrev pub EndedAfter : {K : Type 0} → List (PendingOpen K) → ℕ → Answer → List (PendingOpen K) → Type 0
 EndedAfter before ticket answer after =
     MatchOption (find (λ x. x.ticket == ticket) before) ⊥ (λ x. PendingAfter (λ n. n < x.left) (filter (λ y. not (y.ticket == ticket)) before) answer after)

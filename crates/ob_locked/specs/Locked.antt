@@ -2,7 +2,7 @@
 --
 -- Source: this profile.
 use Rattle.std.specs.Prelude.{◌≡◌, ℕ, ◌+◌, ◌≤◌, length}
-use Rattle.ob_journal.specs.Segments.{most_entries}
+use Rattle.ob_entries.specs.Segments.{most_entries}
 use Rattle.ob_model.specs.Procedures.{Procedures}
 use Rattle.ob_model.specs.Run.{Run}
 use Rattle.ob_model.specs.State.{State}

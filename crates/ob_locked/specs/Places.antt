@@ -3,7 +3,7 @@
 -- Source: this profile.
 use Rattle.std.specs.Prelude.{ℕ, ◌+◌, List, [], ◌∷◌}
 use Rattle.std.specs.Option.{option_map_or}
-use Rattle.ob_model.specs.declared.state.Pending.{Pending}
+use Rattle.ob_model.specs.declared.state.PendingOpen.{PendingOpen}
 use Rattle.ob_model.specs.PendingOpens.{pending_of}
 use Rattle.ob_model.specs.State.{State}
 
@@ -13,7 +13,7 @@ abbrev pub places_of_start : ℕ
 places_of_start = 34
 
 -- the places that opens that wait have reserved: each one for each reparse that is left to it, and one for its end
-abbrev pub places_for : {K : Type 0} → List (Pending K) → ℕ
+abbrev pub places_for : {K : Type 0} → List (PendingOpen K) → ℕ
 places_for [] = 0
 places_for (x ∷ xs) = x.left + 1 + places_for xs
 

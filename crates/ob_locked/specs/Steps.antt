@@ -2,7 +2,7 @@
 --
 -- Source: this profile.
 use Rattle.std.specs.Prelude.{◌≡◌, ◌⊎◌, ℕ, ◌+◌, ◌<◌, ◌++◌, List, [], ◌∷◌, length}
-use Rattle.ob_journal.specs.Segments.{most_entries, most_sealed}
+use Rattle.ob_entries.specs.Segments.{most_entries, most_sealed}
 use Rattle.ob_base.specs.declared.fault.Fault.{Fault}
 use Rattle.ob_base.specs.declared.fault.Fault.TheVariants.{Memory, Refused}
 use Rattle.ob_base.specs.declared.status.Status.TheVariants.{InsufficientResources, InvalidParameter, JournalFull}

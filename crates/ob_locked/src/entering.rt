@@ -1,7 +1,7 @@
 //! The journal's room for a step, and its entry.
 
 ghost use Rattle.std.specs.Prelude.{◌≡◌, ◌≤◌, ◌<◌, ◌+◌, ◌^◌, ◌∷◌, ◌++◌, [], IfOk, IfErr, OnOk, length};
-ghost use Rattle.ob_journal.specs.Segments.{most_entries};
+ghost use Rattle.ob_entries.specs.Segments.{most_entries};
 ghost use Rattle.ob_segments.specs.Journal.{whole, with_entry};
 ghost use Rattle.ob_locked.specs.Passed.{IsKnown};
 ghost use Rattle.ob_locked.specs.Places.{places_of_start};
@@ -12,7 +12,7 @@ use crate::made::Writer;
 use crate::pass::is_known;
 use crate::place::ReceiptPlace;
 use ob_base::{Fault, Status};
-use ob_journal::Entry;
+use ob_entries::Entry;
 use ob_segments::Journal;
 use ob_types::TypeSet;
 use std::sync::ledger::{Book, Ledger};

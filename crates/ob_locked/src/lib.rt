@@ -25,7 +25,7 @@ mod steps;
 pub use locked::Locked;
 pub use ob_segments::{Journal, Segment};
 pub use opened::open_locked;
-pub use pass::{Pass, has_entry};
+pub use pass::{Pass, has_entry, is_known};
 pub use prepared::Prepared;
 pub use started::{Parsed, Parsing, Pending, Started};
 pub use steps::{Asked, seal_step, step};

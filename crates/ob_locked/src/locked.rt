@@ -2,7 +2,7 @@
 
 ghost use Rattle.std.specs.Prelude.{◌≡◌, ◌↔◌, ◌≤◌, ◌+◌, ◌^◌, ◌++◌, [], false, IsTrue, IfOk, IfErr, OnErr, OnOk, length, map};
 ghost use Rattle.std.specs.Arc.{arc_value};
-ghost use Rattle.ob_journal.specs.Segments.{joined, most_entries, most_sealed, open_after, AreSealed};
+ghost use Rattle.ob_entries.specs.Segments.{joined, most_entries, most_sealed, open_after, AreSealed};
 ghost use Rattle.ob_segments.specs.Journal.{open_segment, whole};
 ghost use Rattle.ob_base.specs.declared.Fault.TheVariants.{Memory};
 ghost use Rattle.ob_model.specs.Opening.{opening};
@@ -10,7 +10,7 @@ ghost use Rattle.ob_model.specs.Run.{Run};
 ghost use Rattle.ob_model.specs.declared.reply.Event.TheVariants.{Start, Resume, Abandon};
 ghost use Rattle.ob_base.specs.declared.status.Status.TheVariants.{Success};
 ghost use Rattle.ob_model.specs.Refusals.{answers};
-ghost use Rattle.ob_types.specs.Brought.{run_of_end};
+ghost use Rattle.ob_types.specs.Pending.{run_of_end};
 ghost use Rattle.ob_types.specs.Parse.{asked_of};
 ghost use Rattle.ob_opens.specs.Waiting.{IsAwaited, IsNotTaken, IsParseOf};
 ghost use Rattle.ob_locked.specs.Answers.{answer_in, brought_in, run_in, IfWaits};
@@ -24,8 +24,8 @@ use crate::pass::is_known;
 use crate::place::ReceiptPlace;
 use crate::{Parsed, Parsing, Pass, Pending, Prepared, Started};
 use ob_base::{Fault, Proc, Status};
-use ob_core::{Brought, Core, HandleTable, Started as CoreStarted};
-use ob_journal::Segment;
+use ob_core::{Core, HandleTable, Pending as CorePending, Started as CoreStarted};
+use ob_entries::Segment;
 use ob_model::Command;
 use ob_segments::Journal;
 use ob_types::TypeSet;
@@ -356,7 +356,7 @@ impl<T: TypeSet, H: HandleTable, L: Ledger> Locked<T, H, L> {
         ensures back { result.1 ≡ parsed }
     {
         let (parsed, place) = parsed.into_parts();
-        let brought = Brought::Run(parsed);
+        let brought = CorePending::Run(parsed);
         let fault = if self.core.awaits(&brought) {
             Fault::Memory
         } else {

@@ -8,7 +8,7 @@ ghost use Rattle.ob_model.specs.declared.reply.Event.TheVariants.{Start, Resume,
 ghost use Rattle.ob_model.specs.declared.reply.Answer.TheVariants.{Done, Ticket};
 ghost use Rattle.ob_model.specs.State.{table_size};
 ghost use Rattle.ob_model.specs.Step.{Step};
-ghost use Rattle.ob_types.specs.Brought.{run_of_end, brought as end_of, run_of as brought_run};
+ghost use Rattle.ob_types.specs.Pending.{run_of_end, brought as end_of, run_of as brought_run};
 ghost use Rattle.ob_types.specs.Parse.{asked_of};
 ghost use Rattle.ob_opens.specs.Waiting.{answer_of, IfParsing, IsAwaited, IsNotTaken, IsParseOf};
 ghost use Rattle.ob_locked.specs.Entered.{entered, EndedAfter, HasFew, PendingAfter};
@@ -16,8 +16,8 @@ ghost use Rattle.ob_locked.specs.Rooms.{is_plain, wants_memory, values_given, va
 
 use crate::rooms::{copy_in, values_of};
 use ob_base::{Fault, Handle, Proc, Status};
-use ob_core::{Brought, Core, HandleTable, Parsed, Started};
-use ob_journal::Entry;
+use ob_core::{Core, HandleTable, Parsed, Pending, Started};
+use ob_entries::Entry;
 use ob_model::{Answer, Command, Event, Given, ParseRun, Reply};
 use ob_types::TypeSet;
 use std::alloc::{AllocError, Global};
@@ -315,7 +315,7 @@ pub(crate) struct Twice<K> {
 pub(crate) fn abandon_core<T: TypeSet, H: HandleTable>(
     core: &mut Core<T, H>,
     writer: Writer,
-    brought: Brought<T>,
+    brought: Pending<T>,
 ) -> Option<Twice<T::Kind>>
     ensures exact { IsSome result ↔ IsAwaited T.procedures core.old (asked_of (end_of brought)) }
     ensures step { OnSome result (Step T.procedures core.old (Abandon (end_of brought).ticket

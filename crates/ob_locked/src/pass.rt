@@ -5,7 +5,7 @@ ghost use Rattle.ob_segments.specs.Journal.{whole};
 ghost use Rattle.ob_locked.specs.Passed.{IsKnown, last_number, last_of};
 
 use crate::place::ReceiptPlace;
-use ob_journal::{Entry, is_same_entry};
+use ob_entries::{Entry, is_same_entry};
 use ob_segments::Journal;
 use ob_types::TypeSet;
 use std::alloc::Global;
@@ -103,10 +103,8 @@ impl<K: Copy, L: Ledger> Pass<K, L> {
 }
 
 /// Whether this journal has the last receipt of a pass at its number, or the pass has no receipt: if not, the pass is a stranger's.
-pub(crate) fn is_known<T: TypeSet, L: Ledger>(
-    pass: &Pass<T::Kind, L>,
-    journal: &Journal<T::Kind>,
-) -> bool
+/// Takes no memory. (this profile)
+pub fn is_known<T: TypeSet, L: Ledger>(pass: &Pass<T::Kind, L>, journal: &Journal<T::Kind>) -> bool
     ensures { IsTrue result ↔ IsKnown (whole journal.now.journal) pass.now.receipts }
 {
     match pass.last_receipt() {

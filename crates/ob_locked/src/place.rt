@@ -2,7 +2,7 @@
 
 ghost use Rattle.std.specs.Prelude.{◌≡◌, [], ◌∷◌, ◌+◌, ◌^◌, ◌<◌, ◌++◌, length};
 
-use ob_journal::Entry;
+use ob_entries::Entry;
 use ob_model::{Answer, Event, ParseRun};
 use std::alloc::{AllocError, Global};
 use std::collections::LinkedList;

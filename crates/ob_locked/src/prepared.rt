@@ -3,7 +3,7 @@
 ghost use Rattle.std.specs.Prelude.{◌≡◌, IfOk};
 
 use crate::place::ReceiptPlace;
-use ob_journal::copy_command;
+use ob_entries::copy_command;
 use ob_model::Command;
 use std::alloc::{AllocError, Global};
 use std::marker::Model;

@@ -6,7 +6,7 @@ ghost use Rattle.ob_locked.specs.Rooms.{wants_memory, values_given, values_wante
 
 use ob_base::{Handle, Proc};
 use ob_core::{Core, HandleTable};
-use ob_journal::copy_reply;
+use ob_entries::copy_reply;
 use ob_model::{Command, Given, Handles, Reply};
 use ob_types::TypeSet;
 use std::alloc::{AllocError, Global};

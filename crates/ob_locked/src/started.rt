@@ -2,11 +2,11 @@
 
 ghost use Rattle.std.specs.Prelude.{◌≡◌, None};
 ghost use Rattle.std.specs.Option.{is_some};
-ghost use Rattle.ob_types.specs.Brought.{brought, run_of};
+ghost use Rattle.ob_types.specs.Pending.{brought, run_of};
 ghost use Rattle.ob_locked.specs.Answers.{brought_in, run_in};
 
 use crate::place::ReceiptPlace;
-use ob_core::{Brought, Parsed as CoreParsed, Parsing as CoreParsing};
+use ob_core::{Parsed as CoreParsed, Parsing as CoreParsing, Pending as CorePending};
 use ob_model::Reply;
 use ob_types::TypeSet;
 use std::alloc::Global;
@@ -134,13 +134,13 @@ impl<T: TypeSet> Parsed<T> {
 
 impl<T: TypeSet> Pending<T> {
     /// The parse, as the core takes it, and its place.
-    pub(crate) fn into_parts(self) -> (Brought<T>, ReceiptPlace<T::Kind>)
+    pub(crate) fn into_parts(self) -> (CorePending<T>, ReceiptPlace<T::Kind>)
         ensures brought { brought (result.0) ≡ brought_in self }
         ensures run { run_of (result.0) ≡ run_in self }
     {
         match self {
-            Pending::Unrun(Parsing { parsing, place }) => (Brought::Unrun(parsing), place),
-            Pending::Run(Parsed { parsed, place }) => (Brought::Run(parsed), place),
+            Pending::Unrun(Parsing { parsing, place }) => (CorePending::Unrun(parsing), place),
+            Pending::Run(Parsed { parsed, place }) => (CorePending::Run(parsed), place),
         }
     }
 

@@ -11,7 +11,7 @@ ghost use Rattle.ob_segments.specs.Journal.{open_segment};
 use crate::{Locked, Parsed, Pass, Pending, Prepared, Started};
 use ob_base::{Fault, Proc, Status};
 use ob_core::HandleTable;
-use ob_journal::Segment;
+use ob_entries::Segment;
 use ob_model::{Command, Given, Reply};
 use ob_types::TypeSet;
 use std::alloc::Global;

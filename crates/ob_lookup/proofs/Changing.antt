@@ -22,9 +22,10 @@ use Rattle.ob_objects.proofs.Entries.{nothing_mapped}
 use Rattle.ob_objects.proofs.Follow.{told_of_object, shadow_of_object}
 use Rattle.ob_objects.proofs.Shown.{entries_at-is_dir, names_change_no_object, store_finds}
 use Rattle.ob_objects.proofs.Stands.{any_found, is_mapped_some}
-use Rattle.ob_lookup.specs.declared.prefix.Prefix.{Prefix}
-use Rattle.ob_lookup.specs.Cache.{Kept, ArePaths, NoneIsLocal}
-use Rattle.ob_lookup.specs.Prefix.{LeadsFrom, LeadsTo}
+use Rattle.ob_prefixes.specs.declared.prefix.Prefix.{Prefix}
+use Rattle.ob_prefixes.specs.Cache.{Kept, NoneIsLocal}
+use Rattle.ob_lookup.specs.Prefixes.{ArePaths}
+use Rattle.ob_prefixes.specs.Prefix.{LeadsFrom, LeadsTo}
 use Rattle.ob_lookup.specs.Walk.{shadow_at}
 use Rattle.ob_lookup.proofs.Kept.{flag_off}
 use Rattle.ob_lookup.proofs.Seen.{named_in_parts, entries_there, is_directory_there, shadow_shown, directory_stored}

@@ -16,15 +16,16 @@ use Rattle.ob_model.specs.Paths as paths
 use Rattle.ob_devmap.specs.declared.view.View.{View}
 use Rattle.ob_devmap.specs.View.{IsViewOf}
 use Rattle.ob_objects.specs.Store.{Entries, Shows, directory_at, entries_at, objects_of, rows_of}
-use Rattle.ob_lookup.specs.declared.prefix.Prefix.{Prefix}
+use Rattle.ob_prefixes.specs.declared.prefix.Prefix.{Prefix}
 use Rattle.ob_lookup.specs.declared.start.Standpoint.{Standpoint}
 use Rattle.ob_lookup.specs.declared.start.Standpoint.TheVariants.{InDirectory, InView}
 use Rattle.ob_lookup.specs.declared.start.Start.{Start}
-use Rattle.ob_lookup.specs.Cache.{Kept, kept, after_find, after_put, ArePaths, PathsAreShown, NoneArePaths}
+use Rattle.ob_prefixes.specs.Cache.{Kept, kept, after_find, after_put}
+use Rattle.ob_lookup.specs.Prefixes.{is_view, IsPrefixAt, ArePaths, PathsAreShown, NoneArePaths}
 use Rattle.ob_lookup.specs.Closed.{IsViewThere}
 use Rattle.ob_lookup.specs.Onward.{Led, Leads, reached_at, IsKeyOf}
-use Rattle.ob_lookup.specs.Prefix.{folded, is_view, is_local, IsPrefixOf, same_prefix, entry_from, LeadsFrom, LeadsTo}
-use Rattle.ob_lookup.specs.PrefixLaws.{AreSame, same_prefix-parts}
+use Rattle.ob_prefixes.specs.Prefix.{folded, is_local, same_prefix, entry_from, LeadsFrom, LeadsTo}
+use Rattle.ob_prefixes.specs.PrefixLaws.{AreSame, same_prefix-parts}
 use Rattle.ob_lookup.specs.Walk.{rest_of, directory_of, origin_at, shadow_at, text_of}
 use Rattle.ob_lookup.proofs.Seen.{local_seen, entries_there, is_directory_there, shadow_shown, directory_stored}
 use Rattle.ob_lookup.proofs.Spelling.{spelled_as, folded_text, leads_spelled}
@@ -238,7 +239,7 @@ module _ {K T F I : Type 0} (store : Entries F I) (view : View) (there : IsViewT
           same_front (joined led.0) (separator ∷ parts.0) (separator ∷ key.0) (separator ∷ last) (sym led.1.whole ∙ ap rest_of key.1)
           (ap suc parts.3)
 
-      is : IsPrefixOf view start.place fold key.0 prefix
+      is : IsPrefixAt view start.place fold key.0 prefix
       is = key.3
 
       go : (cs : List (List ℕ)) → All IsComponent cs → joined cs ≡ separator ∷ key.0 → IsPath one (origin_at 0 start.place) cs false fold d → LeadsTo s prefix d
@@ -339,15 +340,3 @@ none_are_paths store room hits = record {
 }
 
 -- ---- prefixes of views
-
-pub left_false : (a b : Bool) → (a || b) ≡ false → a ≡ false
-left_false true b e = cc
-left_false false b e = refl
-
-pub right_false : (a b : Bool) → (a || b) ≡ false → b ≡ false
-right_false true b e = cc
-right_false false b e = e
-
--- prefixes that are the same are of the same view
-pub local_same : (a b : Prefix) → AreSame a b → is_local b ≡ is_local a
-local_same a b same = λ i. (sym same.in_view) i && not ((sym same.place) i == global_id)

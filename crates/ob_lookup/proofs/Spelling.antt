@@ -9,7 +9,7 @@ use Rattle.ob_model.specs.declared.state.Row.{Row}
 use Rattle.ob_model.specs.Names.{separator, upper, same_name, joined, IsComponent}
 use Rattle.ob_model.specs.State.{State, global_id, shadow_of}
 use Rattle.ob_model.specs.Paths.{InDirectory, IsPath, is_none_left, earliest, found, named_object}
-use Rattle.ob_lookup.specs.Prefix.{folded, entry_from, LeadsFrom}
+use Rattle.ob_prefixes.specs.Prefix.{folded, entry_from, LeadsFrom}
 
 -- the parts of a list that is mapped alike
 map_parts : (f : ℕ → ℕ) (a b text : List ℕ) → map f (a ++ b) ≡ map f text

@@ -13,7 +13,8 @@ use Rattle.ob_objects.specs.Store.{Entries, NameEntry, IsStore, stored_at, direc
 use Rattle.ob_objects.specs.Changes.{with_entry, without_object, with_permanence, with_opened, with_closed, stored_opened, stored_closed}
 use Rattle.ob_objects.specs.Rows.{by_stamp}
 use Rattle.ob_objects.proofs.Shown.{new_object_has_no_row, rows_are_entries, rows_go_with_directory, same_rows}
-use Rattle.ob_lookup.specs.Cache.{Kept, ArePaths}
+use Rattle.ob_prefixes.specs.Cache.{Kept}
+use Rattle.ob_lookup.specs.Prefixes.{ArePaths}
 use Rattle.ob_lookup.proofs.Kept.{paths_stay}
 use Rattle.ob_model.specs.State.{shadow_in}
 use Rattle.ob_lookup.specs.Walk.{shadow_at}

@@ -2,8 +2,5 @@ pub mod Closed
 pub mod Walk
 pub mod Look
 pub mod Remainder
-pub mod Prefix
-pub mod PrefixLaws
-pub mod PrefixHash
-pub mod Cache
+pub mod Prefixes
 pub mod Onward

@@ -10,11 +10,11 @@ use Rattle.ob_model.specs.Paths as paths
 use Rattle.ob_devmap.specs.declared.view.View.{View}
 use Rattle.ob_devmap.specs.View.{IsViewOf}
 use Rattle.ob_objects.specs.Store.{Entries, Shows}
-use Rattle.ob_lookup.specs.declared.prefix.Prefix.{Prefix}
+use Rattle.ob_prefixes.specs.declared.prefix.Prefix.{Prefix}
 use Rattle.ob_lookup.specs.declared.start.Standpoint.{Standpoint}
 use Rattle.ob_lookup.specs.declared.start.Standpoint.TheVariants.{InDirectory, InView}
 use Rattle.ob_lookup.specs.declared.start.Start.{Start}
-use Rattle.ob_lookup.specs.Prefix.{IsPrefixOf}
+use Rattle.ob_lookup.specs.Prefixes.{IsPrefixAt}
 use Rattle.ob_lookup.specs.Walk.{origin_at, place_of, text_of}
 
 module _ {K T F I : Type 0} where
@@ -42,4 +42,4 @@ IsCutAt behind front last = (behind ≡ Some (front ++ separator ∷ last)) × A
 -- the prefix of the text that is walked from there, and what follows its last separator
 abbrev pub IsKeyOf : View → Start → Bool → Prefix → List ℕ → Type 0
 IsKeyOf view start fold prefix last =
-    (front : List ℕ) × (start.behind ≡ Some (front ++ separator ∷ last)) × All (λ b. b ≢ separator) last × IsPrefixOf view start.place fold front prefix
+    (front : List ℕ) × (start.behind ≡ Some (front ++ separator ∷ last)) × All (λ b. b ≢ separator) last × IsPrefixAt view start.place fold front prefix

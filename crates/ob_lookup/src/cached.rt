@@ -6,13 +6,12 @@ ghost use Rattle.ob_model.specs.Looks as machine;
 ghost use Rattle.ob_model.specs.Looks.{IsStop};
 ghost use Rattle.ob_devmap.specs.View.{IsViewOf};
 ghost use Rattle.ob_objects.specs.Store.{Shows, directory_at};
-ghost use Rattle.ob_lookup.specs.Cache.{ArePaths};
+ghost use Rattle.ob_lookup.specs.Prefixes.{ArePaths};
 ghost use Rattle.ob_lookup.specs.Closed.{IsClosed, IsRootThere, IsViewThere};
 ghost use Rattle.ob_lookup.specs.Walk.{directory_of, place_of, text_of, stop_of, Meets};
 ghost use Rattle.ob_lookup.specs.Look.{look_of, turn_of, IfAgain, LooksAgain, Goes, LooksUpIn, WalkMayWantMemory, NameMayWantMemory};
 
 use crate::Look;
-use crate::cache::Cache;
 use crate::next::{Next, at_stop, with_own_bytes};
 use crate::onward::onward;
 use crate::start::{Beginning, Start, absolute, begin};
@@ -22,6 +21,7 @@ use ob_devmap::View;
 use ob_model::Mode;
 use ob_names::Name;
 use ob_objects::Store;
+use ob_prefixes::Cache;
 use ob_types::TypeSet;
 use std::alloc::{AllocError, Global};
 

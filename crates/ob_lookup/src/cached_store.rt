@@ -22,7 +22,6 @@ ghost use Rattle.ob_objects.specs.Changes.{
 ghost use Rattle.ob_lookup.specs.Closed.{IsClosed, IsRootThere, IsViewThere};
 ghost use Rattle.ob_lookup.specs.Look.{look_of, LooksUpIn, NameMayWantMemory};
 
-use crate::cache::Cache;
 use crate::cached::look_cached;
 use crate::removals::{Removals, RemovedName};
 use crate::terms::Look;
@@ -31,6 +30,7 @@ use ob_devmap::View;
 use ob_model::Mode;
 use ob_names::{Name, NameBuf};
 use ob_objects::{EntryPlace, Named, Page, Standing, Store, StoredBody, StoredObject};
+use ob_prefixes::Cache;
 use ob_types::{Reason, TypeSet};
 use std::alloc::{AllocError, Global};
 use std::marker::Model;
@@ -59,7 +59,7 @@ impl<T: TypeSet> Model for CachedStore<T> {
     ghost use Rattle.ob_objects.specs.Store.{Entries};
     ghost use Rattle.std.specs.Prelude.{◌≡◌, length};
     ghost use Rattle.ob_objects.specs.Store.{rows_of};
-    ghost use Rattle.ob_lookup.specs.Cache.{ArePaths};
+    ghost use Rattle.ob_lookup.specs.Prefixes.{ArePaths};
 
     ghost Value = { Entries T.Face T.Inner };
 

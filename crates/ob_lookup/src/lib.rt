@@ -2,7 +2,6 @@
 //! lookup ends with.
 #![tactic(auto)]
 
-mod cache;
 mod cached;
 mod cached_store;
 mod closed;
@@ -10,17 +9,16 @@ mod lookup;
 mod next;
 mod onward;
 mod paths;
-mod prefix;
 mod removals;
 mod start;
 mod terms;
 mod walk;
 
-pub use cache::Cache;
 pub use cached::look_cached;
 pub use cached_store::CachedStore;
 pub use closed::{closed_stays, sound_has_views, sound_is_closed};
 pub use lookup::look;
+pub use ob_prefixes::Cache;
 pub use paths::{no_paths_are_shown, paths_are_shown};
 pub use removals::RemovedName;
 pub use terms::{Look, Remainder};

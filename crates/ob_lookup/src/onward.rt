@@ -1,15 +1,13 @@
 //! Where the walk of a text goes on, once its prefix is known to lead to a directory.
 
-ghost use Rattle.std.specs.Prelude.{◌≡◌, ◌≢◌, ◌<◌, ℕ, List, ◌++◌, ◌∷◌, length, All, IsSome, IfSome, IfNone, Some};
+ghost use Rattle.std.specs.Prelude.{◌≡◌, ◌≢◌, ◌<◌, ℕ, List, ◌++◌, ◌∷◌, length, All, IsSome, IfOk, IfSome, IfNone, Some};
 ghost use Rattle.ob_model.specs.Names.{separator};
 ghost use Rattle.ob_objects.specs.Store.{IsStore, directory_at};
-ghost use Rattle.ob_lookup.specs.Cache.{ArePaths};
+ghost use Rattle.ob_lookup.specs.Prefixes.{ArePaths, IsPrefixAt};
 ghost use Rattle.ob_lookup.specs.Closed.{IsClosed, IsViewThere};
 ghost use Rattle.ob_lookup.specs.Onward.{Leads, reached_at, IsCutAt};
 ghost use Rattle.ob_lookup.specs.Walk.{directory_of, shadow_at, text_of};
 
-use crate::cache::Cache;
-use crate::prefix::Prefix;
 use crate::start::{Standpoint, Start, directory_of};
 use crate::walk::{behind_separator, body, directory, is_own, named_at};
 use ob_base::ObjId;
@@ -17,8 +15,9 @@ use ob_devmap::View;
 use ob_dirs::Dir;
 use ob_names::{Component, Name, first};
 use ob_objects::{Store, StoredBody};
+use ob_prefixes::{Cache, Prefix};
 use ob_types::TypeSet;
-use std::alloc::Global;
+use std::alloc::{AllocError, Global};
 
 /// Where the walk of a text goes on: at the directory to which its prefix leads, by the cache, with the last component
 /// alone; else where the walk through directories has come to, and what came so to the last component is put into the
@@ -45,7 +44,7 @@ pub(crate) fn onward<'a, T: TypeSet>(
     let Some((front, last)) = split_start(&start) else {
         return start;
     };
-    let Ok(prefix) = Prefix::new(alloc, view, &start.place, front.as_slice(), fold) else {
+    let Ok(prefix) = prefix_at(alloc, view, &start.place, front.as_slice(), fold) else {
         return start;
     };
     if let Some(directory) = cache.find(&prefix) {
@@ -61,6 +60,20 @@ pub(crate) fn onward<'a, T: TypeSet>(
         drop(cache.put(prefix, directory));
     }
     reached
+}
+
+/// The prefix that is walked from a place of this view. The only error is out of memory.
+fn prefix_at(
+    alloc: Global,
+    view: &View,
+    place: &Standpoint,
+    bytes: &[u8],
+    fold: bool,
+) -> Result<Prefix, AllocError>
+    ensures prefix { IfOk result (λ prefix. IsPrefixAt view.now place.now fold bytes.now prefix) }
+{
+    let is_view = matches!(place, Standpoint::InView);
+    Prefix::new(alloc, directory_of(view, place), is_view, bytes, fold)
 }
 
 /// The part before the last separator of a text that is walked, and its last component, which may be empty. None where

@@ -1,6 +1,6 @@
 //! Caches by which a lookup may be made.
 
-ghost use Rattle.ob_lookup.specs.Cache.{PathsAreShown, NoneArePaths};
+ghost use Rattle.ob_lookup.specs.Prefixes.{PathsAreShown, NoneArePaths};
 
 /// The law that a lookup may be made in a store by a cache each of whose prefixes leads to its directory in a state that
 /// shows the store. Takes nothing and does nothing.

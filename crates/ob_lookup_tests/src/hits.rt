@@ -1,7 +1,7 @@
 //! Two names looked up by one cache, and how often it was of use. All except the test is over any set of types.
 
 ghost use Rattle.std.specs.Prelude.{◌≡◌};
-ghost use Rattle.ob_lookup.specs.Cache.{ArePaths};
+ghost use Rattle.ob_lookup.specs.Prefixes.{ArePaths};
 ghost use Rattle.ob_lookup.specs.Closed.{IsClosed, IsViewThere};
 
 use crate::space::{Kind, Space, has_view};

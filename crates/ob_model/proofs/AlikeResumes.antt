@@ -7,7 +7,7 @@ use Rattle.ob_model.specs.declared.reply.Answer.{Answer}
 use Rattle.ob_model.specs.declared.reply.Event.TheVariants.{Resume, Abandon}
 use Rattle.ob_model.specs.declared.reply.ParseRun.{ParseRun}
 use Rattle.ob_model.specs.declared.reply.ParseRun.TheVariants as run
-use Rattle.ob_model.specs.declared.state.Pending.{Pending}
+use Rattle.ob_model.specs.declared.state.PendingOpen.{PendingOpen}
 use Rattle.ob_model.specs.Names.{longest_name}
 use Rattle.ob_model.specs.State.{State, is_live}
 use Rattle.ob_model.specs.Paths.{origin_of}
@@ -47,7 +47,7 @@ module _ {K T F I : Type 0} (g : Procedures K T F I) (s t : State K T F I) (alik
       go false h k = look_alike g s t alike a b u v p p none p mode n None text one other h k
 
   -- what one end of a parse leads to
-  ends_open_alike : (x : Pending K) (outcome : Option (ParseOutcome F I)) → x.process ≡ p → EndsOpen g s x outcome a u → EndsOpen g t x outcome b v → EndAlike g s t alike a b u v p p none
+  ends_open_alike : (x : PendingOpen K) (outcome : Option (ParseOutcome F I)) → x.process ≡ p → EndsOpen g s x outcome a u → EndsOpen g t x outcome b v → EndAlike g s t alike a b u v p p none
   ends_open_alike x None is h k = refused_alike g s t alike a b u v p p none NoMemory h k
   ends_open_alike x (Some EndsItself) is h k =
       opens_at_alike g s t alike a b u v p p none x.attrs x.wanted Success x.object
@@ -62,7 +62,7 @@ module _ {K T F I : Type 0} (g : Procedures K T F I) (s t : State K T F I) (alik
       (subst (λ q. Opens g s q x.attrs x.wanted h.0 a u) is h.2) (subst (λ q. Opens g t q x.attrs x.wanted h.0 b v) is (subst (λ look. Opens g t x.process x.attrs x.wanted look b v) same k.2))
   ends_open_alike x (Some (EndsRefused code)) is h k = refused_alike g s t alike a b u v p p none (TypeRefused code) h k
 
-  judged_alike : (x : Pending K) (outcome : Option (ParseOutcome F I)) (live other : Bool) → x.process ≡ p → live ≡ other
+  judged_alike : (x : PendingOpen K) (outcome : Option (ParseOutcome F I)) (live other : Bool) → x.process ≡ p → live ≡ other
       → Unless ((not live, ProcessGone) ∷ []) s a u (EndsOpen g s x outcome a u) → Unless ((not other, ProcessGone) ∷ []) t b v (EndsOpen g t x outcome b v)
       → EndAlike g s t alike a b u v p p none
   judged_alike x outcome live other is same h k =
@@ -79,7 +79,7 @@ module _ {K T F I : Type 0} (g : Procedures K T F I) (s t : State K T F I) (alik
 
   module _ (a b : Answer) (u v : State K T F I) where
     -- what ends alike in the states in which the ends are judged does so from the states before
-    from_before : (x : Pending K) (outcome : Option (ParseOutcome F I)) (one other : State K T F I)
+    from_before : (x : PendingOpen K) (outcome : Option (ParseOutcome F I)) (one other : State K T F I)
         → EndAlike g (parsed_state s x.ticket outcome) (parsed_state t x.ticket outcome) (parsed_alike x.ticket outcome) a b one other x.process x.process none
         → u ≡ settle g one → v ≡ settle g other → EndAlike g s t alike a b u v x.process x.process none
     from_before x None one other (same, left, lead, hold) is is_too =
@@ -99,21 +99,21 @@ module _ {K T F I : Type 0} (g : Procedures K T F I) (s t : State K T F I) (alik
         (record { held = lead.held; granted = lead.granted; inherited = lead.inherited }) (record { stays = hold.stays; given = hold.given; told = hold.told })
 
     -- a pending open that is resumed in both
-    resumes_alike : (x : Pending K) (outcome : Option (ParseOutcome F I)) → Resumes g s x outcome a u → Resumes g t x outcome b v → EndAlike g s t alike a b u v x.process x.process none
+    resumes_alike : (x : PendingOpen K) (outcome : Option (ParseOutcome F I)) → Resumes g s x outcome a u → Resumes g t x outcome b v → EndAlike g s t alike a b u v x.process x.process none
     resumes_alike x outcome h k =
         from_before x outcome h.0 k.0
         (judged_alike g (parsed_state s x.ticket outcome) (parsed_state t x.ticket outcome) (parsed_alike x.ticket outcome) a b h.0 k.0 x.process x outcome (is_live s x.process) (is_live t x.process) refl
         (ap (λ y. is_live y x.process) alike) h.1 k.1) h.2 k.2
 
     -- and one that is given up in both
-    abandons_alike : (x : Pending K) (outcome : Option (ParseOutcome F I)) → Abandons g s x outcome a u → Abandons g t x outcome b v → EndAlike g s t alike a b u v x.process x.process none
+    abandons_alike : (x : PendingOpen K) (outcome : Option (ParseOutcome F I)) → Abandons g s x outcome a u → Abandons g t x outcome b v → EndAlike g s t alike a b u v x.process x.process none
     abandons_alike x outcome h k =
         from_before x outcome (parsed_state s x.ticket outcome) (parsed_state t x.ticket outcome)
         (refused_alike g (parsed_state s x.ticket outcome) (parsed_state t x.ticket outcome) (parsed_alike x.ticket outcome) a b (parsed_state s x.ticket outcome) (parsed_state t x.ticket outcome) x.process x.process none
         Success (h.0, refl) (k.0, refl)) h.1 k.1
 
     -- the parse of a pending open has one end in both
-    one_end : (x : Pending K) (parse : ParseRun) (one other : Option (ParseOutcome F I)) → IsParsed g s x parse one → IsParsed g t x parse other → other ≡ one
+    one_end : (x : PendingOpen K) (parse : ParseRun) (one other : Option (ParseOutcome F I)) → IsParsed g s x parse one → IsParsed g t x parse other → other ≡ one
     one_end x run.Unrun one other h k = k ∙ sym h
     one_end x run.NoMemory one other h k = k ∙ sym h
     one_end x run.Ran None other h k = absurd h
@@ -125,17 +125,17 @@ module _ {K T F I : Type 0} (g : Procedures K T F I) (s t : State K T F I) (alik
         go (Some face) h k = ap Some (parse_unique g k h)
 
     -- what holds of the open that is pending under a ticket, in both
-    both : (ticket : ℕ) (One Other Goal : Pending K → Type 0) → ((x : Pending K) → One x → Other x → Goal x)
+    both : (ticket : ℕ) (One Other Goal : PendingOpen K → Type 0) → ((x : PendingOpen K) → One x → Other x → Goal x)
         → MatchOption (pending_of s ticket) ⊥ One → MatchOption (pending_of t ticket) ⊥ Other → MatchOption (pending_of s ticket) ⊥ Goal
-    both ticket One Other Goal follows h k = go (pending_of s ticket) h (subst (λ (o : Option (Pending K)). MatchOption o ⊥ Other) (sym (ap (λ y. pending_of y ticket) alike)) k)
+    both ticket One Other Goal follows h k = go (pending_of s ticket) h (subst (λ (o : Option (PendingOpen K)). MatchOption o ⊥ Other) (sym (ap (λ y. pending_of y ticket) alike)) k)
       where
-        go : (o : Option (Pending K)) → MatchOption o ⊥ One → MatchOption o ⊥ Other → MatchOption o ⊥ Goal
+        go : (o : Option (PendingOpen K)) → MatchOption o ⊥ One → MatchOption o ⊥ Other → MatchOption o ⊥ Goal
         go None h k = absurd h
         go (Some x) h k = follows x h k
 
     -- so is what an end of a pending open says in both, where it is brought in both by a parse that became of the same
-    ended_alike : (ticket : ℕ) (parse : ParseRun) (One Other : Pending K → Option (ParseOutcome F I) → Type 0)
-        → ((x : Pending K) (outcome : Option (ParseOutcome F I)) → One x outcome → Other x outcome → EndAlike g s t alike a b u v x.process x.process none)
+    ended_alike : (ticket : ℕ) (parse : ParseRun) (One Other : PendingOpen K → Option (ParseOutcome F I) → Type 0)
+        → ((x : PendingOpen K) (outcome : Option (ParseOutcome F I)) → One x outcome → Other x outcome → EndAlike g s t alike a b u v x.process x.process none)
         → (one other : Option (ParseOutcome F I)) → MatchOption (pending_of s ticket) ⊥ (λ x. IsParsed g s x parse one) → MatchOption (pending_of t ticket) ⊥ (λ x. IsParsed g t x parse other)
         → MatchOption (pending_of s ticket) ⊥ (λ x. One x one) → MatchOption (pending_of t ticket) ⊥ (λ x. Other x other)
         → MatchOption (pending_of s ticket) ⊥ (λ x. EndAlike g s t alike a b u v x.process x.process none)

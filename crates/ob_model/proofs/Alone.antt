@@ -39,7 +39,7 @@ use Rattle.ob_model.proofs.Soundness.{find_id-map, opened_object-id, opened_obje
 use Rattle.ob_model.proofs.Turned.{turned_object-id, turned_object-is_directory, turned_object-exclusive, turned_either}
 use Rattle.ob_model.proofs.Steps.{step_sound}
 use Rattle.ob_model.specs.declared.reply.Event.TheVariants.{Start, Resume, Abandon}
-use Rattle.ob_model.specs.declared.state.Pending.{Pending}
+use Rattle.ob_model.specs.declared.state.PendingOpen.{PendingOpen}
 use Rattle.ob_model.specs.PendingOpens.{pending_of, with_pending, without_pending, with_instance}
 use Rattle.ob_model.specs.Parses.{parsed_state, Resumes, Abandons}
 use Rattle.ob_model.proofs.PendingSound.{parsed_sound, HasTicket, has_ticket}
@@ -304,7 +304,7 @@ module _ {K T F I : Type 0} (g : Procedures K T F I) where
       other : (o : ℕ) → Stands s o → ticket ≢ o
       other o stands = λ same. none_stands ticket s.objects free (subst (Stands s) (sym same) stands)
 
-  parsed_alone : (s : State K T F I) (x : Pending K) (outcome : Option (ParseOutcome F I)) → IsSound s → HasTicket s x → AreAlone s → AreAlone (parsed_state s x.ticket outcome)
+  parsed_alone : (s : State K T F I) (x : PendingOpen K) (outcome : Option (ParseOutcome F I)) → IsSound s → HasTicket s x → AreAlone s → AreAlone (parsed_state s x.ticket outcome)
   parsed_alone s x None sound ticket is = agreeing s (without_pending s x.ticket) refl (λ k d within. refl) is
   parsed_alone s x (Some EndsItself) sound ticket is = agreeing s (without_pending s x.ticket) refl (λ k d within. refl) is
   parsed_alone s x (Some (EndsReparse text)) sound ticket is = agreeing s (without_pending s x.ticket) refl (λ k d within. refl) is
@@ -317,7 +317,7 @@ module _ {K T F I : Type 0} (g : Procedures K T F I) where
   step_alone s t (Start p command) answer sound is h = came_alone s t sound is (started p command answer h)
   step_alone s t (Resume ticket parse) answer sound is h = go (pending_of s ticket) (has_ticket s ticket sound) h.2
     where
-      go : (found : Option (Pending K)) → MatchOption found (Unit {0}) (HasTicket s) → MatchOption found ⊥ (λ x. Resumes g s x h.0 answer t) → AreAlone t
+      go : (found : Option (PendingOpen K)) → MatchOption found (Unit {0}) (HasTicket s) → MatchOption found ⊥ (λ x. Resumes g s x h.0 answer t) → AreAlone t
       go None has does = absurd does
       go (Some x) has does =
           subst AreAlone (sym does.2)
@@ -325,7 +325,7 @@ module _ {K T F I : Type 0} (g : Procedures K T F I) where
           (came_alone (parsed_state s x.ticket h.0) does.0 (parsed_sound s x.ticket h.0 has.0 has.1 sound) (parsed_alone s x h.0 sound has is) (judged ((not (is_live s x.process), ProcessGone) ∷ []) x h.0 answer does.1)))
   step_alone s t (Abandon ticket parse) answer sound is h = go (pending_of s ticket) (has_ticket s ticket sound) h.2
     where
-      go : (found : Option (Pending K)) → MatchOption found (Unit {0}) (HasTicket s) → MatchOption found ⊥ (λ x. Abandons g s x h.0 answer t) → AreAlone t
+      go : (found : Option (PendingOpen K)) → MatchOption found (Unit {0}) (HasTicket s) → MatchOption found ⊥ (λ x. Abandons g s x h.0 answer t) → AreAlone t
       go None has does = absurd does
       go (Some x) has does = subst AreAlone (sym does.1) (settled_alone (parsed_state s x.ticket h.0) (parsed_alone s x h.0 sound has is))
 

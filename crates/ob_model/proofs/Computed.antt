@@ -12,7 +12,7 @@ use Rattle.ob_model.specs.Procedures.{Procedures}
 use Rattle.ob_model.specs.declared.terms.Mode.{Mode}
 use Rattle.ob_model.specs.Looks.{Look, LooksUp}
 use Rattle.ob_model.specs.declared.state.Held.{Held}
-use Rattle.ob_model.specs.declared.state.Pending.{Pending}
+use Rattle.ob_model.specs.declared.state.PendingOpen.{PendingOpen}
 use Rattle.ob_model.specs.Names.{IsComponent}
 use Rattle.ob_model.specs.Closing.{is_handle}
 use Rattle.ob_model.specs.Sound.{IsSound, IsDirectory, Stands, IsShadowAmong, HasSoundShadowAmong, HasSoundMap, is_barred}
@@ -54,15 +54,15 @@ differ (h ∷ hs) e =
     (differ hs parts.1)
 
 -- no open is pending
-abbrev pub none_pending : {K : Type 0} → List (Pending K) → Bool
+abbrev pub none_pending : {K : Type 0} → List (PendingOpen K) → Bool
 none_pending [] = true
 none_pending (x ∷ xs) = false
 
-all_of_none : {K : Type 0} (P : Pending K → Type 0) (xs : List (Pending K)) → none_pending xs ≡ true → All P xs
+all_of_none : {K : Type 0} (P : PendingOpen K → Type 0) (xs : List (PendingOpen K)) → none_pending xs ≡ true → All P xs
 all_of_none P [] h = All-nil P
 all_of_none P (x ∷ xs) h = cc
 
-pairs_of_none : {K : Type 0} (P : Pending K → Pending K → Type 0) (xs : List (Pending K)) → none_pending xs ≡ true → AllPairs P xs
+pairs_of_none : {K : Type 0} (P : PendingOpen K → PendingOpen K → Type 0) (xs : List (PendingOpen K)) → none_pending xs ≡ true → AllPairs P xs
 pairs_of_none P [] h = λ i j d less within. absurd (omega (arith, within))
 pairs_of_none P (x ∷ xs) h = cc
 

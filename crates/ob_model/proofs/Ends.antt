@@ -18,7 +18,7 @@ use Rattle.ob_model.specs.declared.reply.Given.TheVariants.{Handle, Nothing, Pro
 use Rattle.ob_model.specs.declared.reply.ParseRun.{ParseRun}
 use Rattle.ob_model.specs.declared.reply.ParseRun.TheVariants as run
 use Rattle.ob_model.specs.declared.state.Held.{Held}
-use Rattle.ob_model.specs.declared.state.Pending.{Pending}
+use Rattle.ob_model.specs.declared.state.PendingOpen.{PendingOpen}
 use Rattle.ob_model.specs.declared.state.Wanted.{Wanted}
 use Rattle.ob_model.specs.declared.state.Wanted.TheVariants as wanted
 use Rattle.ob_model.specs.State.{State, is_live, is_directory, is_store_full, held_of}
@@ -253,7 +253,7 @@ module _ {K T F I : Type 0} (g : Procedures K T F I) where
   -- ---- the end of a pending open
 
   -- one thing is brought of its parse
-  parsed_unique : (s : State K T F I) (x : Pending K) (parse : ParseRun) (a b : Option (ParseOutcome F I)) → IsParsed g s x parse a → IsParsed g s x parse b → a ≡ b
+  parsed_unique : (s : State K T F I) (x : PendingOpen K) (parse : ParseRun) (a b : Option (ParseOutcome F I)) → IsParsed g s x parse a → IsParsed g s x parse b → a ≡ b
   parsed_unique s x run.Unrun a b h k = h ∙ sym k
   parsed_unique s x run.NoMemory a b h k = h ∙ sym k
   parsed_unique s x run.Ran None b h k = absurd h
@@ -264,7 +264,7 @@ module _ {K T F I : Type 0} (g : Procedures K T F I) where
       go None h k = absurd h
       go (Some face) h k = ap (λ (outcome : ParseOutcome F I). Some outcome) (parse_unique g h k)
 
-  brought_for : (s : State K T F I) (parse : ParseRun) (found : Option (Pending K)) (a b : Option (ParseOutcome F I))
+  brought_for : (s : State K T F I) (parse : ParseRun) (found : Option (PendingOpen K)) (a b : Option (ParseOutcome F I))
       → MatchOption found ⊥ (λ x. IsParsed g s x parse a) → MatchOption found ⊥ (λ x. IsParsed g s x parse b) → a ≡ b
   brought_for s parse None a b h k = absurd h
   brought_for s parse (Some x) a b h k = parsed_unique s x parse a b h k
@@ -283,7 +283,7 @@ module _ {K T F I : Type 0} (g : Procedures K T F I) where
       Again-unique s p mode text (λ look place rest. Looks g s p mode n place rest look) a b (λ place rest h' k'. looks_unique g s p mode n place rest a b h' k') h k
 
   -- what a parse leads to
-  ends_open_end : (s t u : State K T F I) (x : Pending K) (outcome : Option (ParseOutcome F I)) (answer : Answer)
+  ends_open_end : (s t u : State K T F I) (x : PendingOpen K) (outcome : Option (ParseOutcome F I)) (answer : Answer)
       → EndsOpen g s x outcome answer t → EndsOpen g s x outcome answer u → t ≡ u
   ends_open_end s t u x None answer h k = refused_end s t u NoMemory NoMemory answer h k
   ends_open_end s t u x (Some EndsItself) answer h k = opens_at_end s t u x.process x.attrs x.wanted Success x.object answer h k
@@ -293,7 +293,7 @@ module _ {K T F I : Type 0} (g : Procedures K T F I) where
       opens_end s t u x.process x.attrs x.wanted h.0 answer h.2 (subst (λ look. Opens g s x.process x.attrs x.wanted look answer u) same k.2)
   ends_open_end s t u x (Some (EndsRefused n)) answer h k = refused_end s t u (TypeRefused n) (TypeRefused n) answer h k
 
-  resumes_end : (s t u : State K T F I) (x : Pending K) (outcome : Option (ParseOutcome F I)) (answer : Answer) → Resumes g s x outcome answer t → Resumes g s x outcome answer u → t ≡ u
+  resumes_end : (s t u : State K T F I) (x : PendingOpen K) (outcome : Option (ParseOutcome F I)) (answer : Answer) → Resumes g s x outcome answer t → Resumes g s x outcome answer u → t ≡ u
   resumes_end s t u x outcome answer h k =
       let v = parsed_state s x.ticket outcome in
       h.2
@@ -346,14 +346,14 @@ module _ {K T F I : Type 0} (g : Procedures K T F I) where
       let same : k.0 ≡ h.0 = brought_unique s (Resume ticket parse) k.0 h.0 k.1 h.1 in
       go (pending_of s ticket) h.2 (subst (λ (outcome : Option (ParseOutcome F I)). MatchOption (pending_of s ticket) ⊥ (λ x. Resumes g s x outcome answer u)) same k.2)
     where
-      go : (found : Option (Pending K)) → MatchOption found ⊥ (λ x. Resumes g s x h.0 answer t) → MatchOption found ⊥ (λ x. Resumes g s x h.0 answer u) → t ≡ u
+      go : (found : Option (PendingOpen K)) → MatchOption found ⊥ (λ x. Resumes g s x h.0 answer t) → MatchOption found ⊥ (λ x. Resumes g s x h.0 answer u) → t ≡ u
       go None h k = absurd h
       go (Some x) does also = resumes_end s t u x h.0 answer does also
   step_end s t u (Abandon ticket parse) answer h k =
       let same : k.0 ≡ h.0 = brought_unique s (Abandon ticket parse) k.0 h.0 k.1 h.1 in
       go (pending_of s ticket) h.2 (subst (λ (outcome : Option (ParseOutcome F I)). MatchOption (pending_of s ticket) ⊥ (λ x. Abandons g s x outcome answer u)) same k.2)
     where
-      go : (found : Option (Pending K)) → MatchOption found ⊥ (λ x. Abandons g s x h.0 answer t) → MatchOption found ⊥ (λ x. Abandons g s x h.0 answer u) → t ≡ u
+      go : (found : Option (PendingOpen K)) → MatchOption found ⊥ (λ x. Abandons g s x h.0 answer t) → MatchOption found ⊥ (λ x. Abandons g s x h.0 answer u) → t ≡ u
       go None h k = absurd h
       go (Some x) does also = does.1 ∙ sym also.1
 

@@ -18,7 +18,7 @@ use Rattle.ob_model.specs.declared.reply.Event.TheVariants.{Start}
 use Rattle.ob_model.specs.declared.reply.Given.TheVariants.{Handle, Process}
 use Rattle.ob_model.specs.declared.state.Held.{Held}
 use Rattle.ob_model.specs.declared.state.Body.{Body}
-use Rattle.ob_model.specs.declared.state.Pending.{Pending}
+use Rattle.ob_model.specs.declared.state.PendingOpen.{PendingOpen}
 use Rattle.ob_model.specs.declared.state.Wanted.{Wanted}
 use Rattle.ob_model.specs.declared.state.Wanted.TheVariants as wanted
 use Rattle.ob_model.specs.State.{State, is_live, is_directory, is_store_full, held_of}
@@ -61,7 +61,7 @@ lawful_to_create true fit place.Unnamed attrs e = go (are_lawful attrs) e
 -- how a state comes from one: by a start, or by what a parse leads to in the state in which it is judged
 pub data Came {K T F I : Type 0} (g : Procedures K T F I) (s t : State K T F I) : Type 0 where
   started : (p : ℕ) (command : Command K) (answer : Answer) → Step g s (Start p command) answer t → Came g s t
-  judged : (refusals : List (Bool × Status)) (x : Pending K) (outcome : Option (ParseOutcome F I)) (answer : Answer) → Unless refusals s answer t (EndsOpen g s x outcome answer t) → Came g s t
+  judged : (refusals : List (Bool × Status)) (x : PendingOpen K) (outcome : Option (ParseOutcome F I)) (answer : Answer) → Unless refusals s answer t (EndsOpen g s x outcome answer t) → Came g s t
 
 module _ {K T F I : Type 0} (g : Procedures K T F I) (s : State K T F I) (P : State K T F I → Type 0) (same : P s)
     (drops : (body : Body F I) → P (dropped g s body))
@@ -253,7 +253,7 @@ module _ {K T F I : Type 0} (g : Procedures K T F I) (s : State K T F I) (P : St
       (λ e does. subst P (sym does.1) (ends p)) h
 
   -- what a parse leads to, in the state in which it is judged
-  ends_open_leads : (t : State K T F I) (x : Pending K) (outcome : Option (ParseOutcome F I)) (answer : Answer) → EndsOpen g s x outcome answer t → P t
+  ends_open_leads : (t : State K T F I) (x : PendingOpen K) (outcome : Option (ParseOutcome F I)) (answer : Answer) → EndsOpen g s x outcome answer t → P t
   ends_open_leads t x None answer h = refused_leads t NoMemory answer h
   ends_open_leads t x (Some EndsItself) answer h = opens_at_leads t x.process x.attrs x.wanted Success x.object answer h
   ends_open_leads t x (Some (EndsMade face inner)) answer h = opens_at_leads t x.process x.attrs x.wanted Success x.ticket answer h

@@ -41,3 +41,9 @@ pub mod AlikeSteps
 pub mod AlikeResumes
 pub mod Sorted
 pub mod Shadows
+pub mod Revalued
+pub mod Chosen
+pub mod ChosenSteps
+pub mod OneAnswer
+pub mod Answered
+pub mod Waits

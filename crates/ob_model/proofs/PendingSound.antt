@@ -7,7 +7,7 @@ use Rattle.std.proofs.lemmas.List.Kept.{AllPairs-filter}
 use Rattle.std.proofs.lemmas.List.Quantifiers.{all_pairs_push}
 use Rattle.ob_model.specs.declared.state.Body.TheVariants.{Other}
 use Rattle.ob_model.specs.declared.state.Object.{Object}
-use Rattle.ob_model.specs.declared.state.Pending.{Pending}
+use Rattle.ob_model.specs.declared.state.PendingOpen.{PendingOpen}
 use Rattle.ob_model.specs.declared.state.Wanted.{Wanted}
 use Rattle.ob_model.specs.Procedures.{ParseOutcome, EndsItself, EndsMade, EndsReparse, EndsRefused}
 use Rattle.ob_model.specs.State.{State}
@@ -62,7 +62,7 @@ module _ {K T F I : Type 0} (s : State K T F I) where
     instance_sound drawn others sound = inserted_sound s new s.next_id (omega arith) drawn tt free (λ k d within same. others k d within (sym same)) sound
 
 -- what isn't kept away by a test of its ticket has another ticket
-other_tickets : {K : Type 0} (ticket : ℕ) (xs : List (Pending K)) → All (λ x. x.ticket ≢ ticket) (filter (λ x. not (x.ticket == ticket)) xs)
+other_tickets : {K : Type 0} (ticket : ℕ) (xs : List (PendingOpen K)) → All (λ x. x.ticket ≢ ticket) (filter (λ x. not (x.ticket == ticket)) xs)
 other_tickets ticket xs k d within = λ same.
     let passes : not ((get_or (filter (λ x. not (x.ticket == ticket)) xs) k d).ticket == ticket) ≡ true = filter_passes (λ x. not (x.ticket == ticket)) xs k d within in
     let is : ((get_or (filter (λ x. not (x.ticket == ticket)) xs) k d).ticket == ticket) ≡ true = eq-eqb _ ticket same in
@@ -80,7 +80,7 @@ module _ {K T F I : Type 0} (s : State K T F I) where
       instance_sound (without_pending s ticket) ticket face inner free drawn (other_tickets ticket s.pending) (without_pending_sound s ticket sound)
 
   -- the pending open of a ticket, where there is one, has a number of its own, which was drawn
-  abbrev pub HasTicket : Pending K → Type 0
+  abbrev pub HasTicket : PendingOpen K → Type 0
   HasTicket x = All (λ y. y.id ≢ x.ticket) s.objects × (x.ticket < s.next_id)
 
   pub has_ticket : (ticket : ℕ) → IsSound s → MatchOption (pending_of s ticket) (Unit {0}) HasTicket

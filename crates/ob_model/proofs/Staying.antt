@@ -34,7 +34,7 @@ use Rattle.ob_model.proofs.Settled.{alive_from_handle, itself_from_root, itself_
 use Rattle.ob_model.proofs.Soundness.{find_id-map, opened_object-id, opened_object-is_directory, opened_object-shadow, closed_object-id, closed_object-is_directory, closed_object-shadow}
 use Rattle.ob_model.proofs.Turned.{turned_object-id, turned_object-shadow, turned_either, turned_others}
 use Rattle.ob_model.specs.declared.reply.Event.TheVariants.{Start, Resume, Abandon}
-use Rattle.ob_model.specs.declared.state.Pending.{Pending}
+use Rattle.ob_model.specs.declared.state.PendingOpen.{PendingOpen}
 use Rattle.ob_model.specs.PendingOpens.{pending_of, with_pending}
 use Rattle.ob_model.specs.Parses.{parsed_state, Resumes, Abandons}
 use Rattle.ob_model.proofs.Leads.{started, came_leads}
@@ -293,12 +293,12 @@ module _ {K T F I : Type 0} (g : Procedures K T F I) where
       (λ p attrs wanted o rest n. settling_settles (with_pending s p attrs wanted o rest n)) t (started p command answer h)
   step_settled s t (Resume ticket parse) answer settled h = go (pending_of s ticket) h.2
     where
-      go : (found : Option (Pending K)) → MatchOption found ⊥ (λ x. Resumes g s x h.0 answer t) → IsSettled t
+      go : (found : Option (PendingOpen K)) → MatchOption found ⊥ (λ x. Resumes g s x h.0 answer t) → IsSettled t
       go None does = absurd does
       go (Some x) does = subst IsSettled (sym does.2) (settling_settles does.0)
   step_settled s t (Abandon ticket parse) answer settled h = go (pending_of s ticket) h.2
     where
-      go : (found : Option (Pending K)) → MatchOption found ⊥ (λ x. Abandons g s x h.0 answer t) → IsSettled t
+      go : (found : Option (PendingOpen K)) → MatchOption found ⊥ (λ x. Abandons g s x h.0 answer t) → IsSettled t
       go None does = absurd does
       go (Some x) does = subst IsSettled (sym does.1) (settling_settles (parsed_state s x.ticket h.0))
 

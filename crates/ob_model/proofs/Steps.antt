@@ -16,7 +16,7 @@ use Rattle.ob_model.specs.declared.reply.Event.TheVariants.{Start, Resume, Aband
 use Rattle.ob_model.specs.declared.reply.Given.TheVariants.{Handle, Process}
 use Rattle.ob_model.specs.declared.state.Held.{Held}
 use Rattle.ob_model.specs.declared.state.Object.{Object}
-use Rattle.ob_model.specs.declared.state.Pending.{Pending}
+use Rattle.ob_model.specs.declared.state.PendingOpen.{PendingOpen}
 use Rattle.ob_model.specs.declared.state.Wanted.{Wanted}
 use Rattle.ob_model.specs.declared.state.Wanted.TheVariants as wanted
 use Rattle.ob_model.specs.State.{State, shadow_of, is_live, is_directory, is_store_full, held_of, object_of}
@@ -250,7 +250,7 @@ module _ {K T F I : Type 0} (g : Procedures K T F I) where
   -- ---- the end of a pending open
 
   -- what a parse leads to, in the state in which it is judged
-  ends_open_sound : (s t : State K T F I) (x : Pending K) (outcome : Option (ParseOutcome F I)) (answer : Answer)
+  ends_open_sound : (s t : State K T F I) (x : PendingOpen K) (outcome : Option (ParseOutcome F I)) (answer : Answer)
       → IsSound s → is_live s x.process ≡ true → EndsOpen g s x outcome answer t → IsSound t
   ends_open_sound s t x None answer sound live h = refused_sound s t NoMemory answer sound h
   ends_open_sound s t x (Some EndsItself) answer sound live h = opens_at_sound s t x.process x.attrs x.wanted Success x.object answer sound live h
@@ -259,7 +259,7 @@ module _ {K T F I : Type 0} (g : Procedures K T F I) where
       opens_sound s t x.process x.attrs x.wanted h.0 answer sound live (again_end g s x.process (open_mode x.wanted x.attrs) refl x.left text h.0 h.1) h.2
   ends_open_sound s t x (Some (EndsRefused k)) answer sound live h = refused_sound s t (TypeRefused k) answer sound h
 
-  resumes_sound : (s t : State K T F I) (x : Pending K) (outcome : Option (ParseOutcome F I)) (answer : Answer)
+  resumes_sound : (s t : State K T F I) (x : PendingOpen K) (outcome : Option (ParseOutcome F I)) (answer : Answer)
       → IsSound s → HasTicket s x → Resumes g s x outcome answer t → IsSound t
   resumes_sound s t x outcome answer sound ticket h =
       let u = parsed_state s x.ticket outcome in
@@ -306,12 +306,12 @@ module _ {K T F I : Type 0} (g : Procedures K T F I) where
       (λ e does. subst IsSound (sym does.1) (settled_sound g (ended g s p) (ended_sound g s p sound))) h
   step_sound s t (Resume ticket parse) answer sound h = go (pending_of s ticket) (has_ticket s ticket sound) h.2
     where
-      go : (found : Option (Pending K)) → MatchOption found (Unit {0}) (HasTicket s) → MatchOption found ⊥ (λ x. Resumes g s x h.0 answer t) → IsSound t
+      go : (found : Option (PendingOpen K)) → MatchOption found (Unit {0}) (HasTicket s) → MatchOption found ⊥ (λ x. Resumes g s x h.0 answer t) → IsSound t
       go None has does = absurd does
       go (Some x) has does = resumes_sound s t x h.0 answer sound has does
   step_sound s t (Abandon ticket parse) answer sound h = go (pending_of s ticket) (has_ticket s ticket sound) h.2
     where
-      go : (found : Option (Pending K)) → MatchOption found (Unit {0}) (HasTicket s) → MatchOption found ⊥ (λ x. Abandons g s x h.0 answer t) → IsSound t
+      go : (found : Option (PendingOpen K)) → MatchOption found (Unit {0}) (HasTicket s) → MatchOption found ⊥ (λ x. Abandons g s x h.0 answer t) → IsSound t
       go None has does = absurd does
       go (Some x) has does =
           subst IsSound (sym does.1) (settled_sound g (parsed_state s x.ticket h.0) (parsed_sound s x.ticket h.0 has.0 has.1 sound))

@@ -16,7 +16,7 @@ use Rattle.ob_model.specs.declared.reply.Answer.{Answer}
 use Rattle.ob_model.specs.declared.reply.Answer.TheVariants.{Ticket}
 use Rattle.ob_model.specs.declared.reply.ParseRun.{ParseRun}
 use Rattle.ob_model.specs.declared.reply.ParseRun.TheVariants as run
-use Rattle.ob_model.specs.declared.state.Pending.{Pending}
+use Rattle.ob_model.specs.declared.state.PendingOpen.{PendingOpen}
 use Rattle.ob_model.specs.declared.reply.Event.{Event}
 use Rattle.ob_model.specs.declared.reply.Event.TheVariants.{Start, Resume, Abandon}
 use Rattle.ob_model.specs.declared.reply.Given.TheVariants.{Handle, Text, Process}
@@ -357,7 +357,7 @@ module _ {K T F I : Type 0} (g : Procedures K T F I) where
   -- ---- the end of a pending open
 
   -- what a parse leads to
-  ends_open_total : (s : State K T F I) (x : Pending K) (outcome : Option (ParseOutcome F I)) → IsSound s → Has (EndsOpen g s x outcome)
+  ends_open_total : (s : State K T F I) (x : PendingOpen K) (outcome : Option (ParseOutcome F I)) → IsSound s → Has (EndsOpen g s x outcome)
   ends_open_total s x None sound = refused_total s NoMemory
   ends_open_total s x (Some EndsItself) sound = opens_at_total s x.process x.attrs x.wanted Success x.object
   ends_open_total s x (Some (EndsMade face inner)) sound = opens_at_total s x.process x.attrs x.wanted Success x.ticket
@@ -367,17 +367,17 @@ module _ {K T F I : Type 0} (g : Procedures K T F I) where
       (done.0, done.1, (look.0, look.1, done.2))
   ends_open_total s x (Some (EndsRefused k)) sound = refused_total s (TypeRefused k)
 
-  resumes_total : (s : State K T F I) (x : Pending K) (outcome : Option (ParseOutcome F I)) → IsSound s → HasTicket s x → Has (Resumes g s x outcome)
+  resumes_total : (s : State K T F I) (x : PendingOpen K) (outcome : Option (ParseOutcome F I)) → IsSound s → HasTicket s x → Has (Resumes g s x outcome)
   resumes_total s x outcome sound ticket =
       let u = parsed_state s x.ticket outcome in
       let done = unless_total ((not (is_live s x.process), ProcessGone) ∷ []) u (EndsOpen g u x outcome)
       (λ e. ends_open_total u x outcome (parsed_sound s x.ticket outcome ticket.0 ticket.1 sound)) in
       (done.0, settle g done.1, (done.1, done.2, refl))
 
-  abbrev Brings : State K T F I → ParseRun → Option (Pending K) → Option (ParseOutcome F I) → Type 0
+  abbrev Brings : State K T F I → ParseRun → Option (PendingOpen K) → Option (ParseOutcome F I) → Type 0
   Brings s parse found outcome = MatchOption found ⊥ (λ x. IsParsed g s x parse outcome)
 
-  resumed_total : (s : State K T F I) (parse : ParseRun) (outcome : Option (ParseOutcome F I)) (found : Option (Pending K))
+  resumed_total : (s : State K T F I) (parse : ParseRun) (outcome : Option (ParseOutcome F I)) (found : Option (PendingOpen K))
       → IsSound s → MatchOption found (Unit {0}) (HasTicket s) → Brings s parse found outcome → Has (λ answer t. MatchOption found ⊥ (λ x. Resumes g s x outcome answer t))
   resumed_total s parse outcome None sound ticket brought = absurd brought
   resumed_total s parse outcome (Some x) sound ticket brought = resumes_total s x outcome sound ticket
@@ -393,6 +393,6 @@ module _ {K T F I : Type 0} (g : Procedures K T F I) where
   step_total s (Abandon ticket parse) outcome sound brought =
       let done = go (pending_of s ticket) brought in (done.0, done.1, (outcome, brought, done.2))
     where
-      go : (found : Option (Pending K)) → Brings s parse found outcome → Has (λ answer t. MatchOption found ⊥ (λ x. Abandons g s x outcome answer t))
+      go : (found : Option (PendingOpen K)) → Brings s parse found outcome → Has (λ answer t. MatchOption found ⊥ (λ x. Abandons g s x outcome answer t))
       go None brought = absurd brought
       go (Some x) brought = (answers Success, settle g (parsed_state s x.ticket outcome), (refl, refl))

@@ -30,3 +30,5 @@ pub mod Laws
 pub mod Examples
 pub mod ParseExamples
 pub mod Sorted
+pub mod Choice
+pub mod Waiting

@@ -10,7 +10,7 @@ use Rattle.ob_model.specs.declared.reply.Event.{Event}
 use Rattle.ob_model.specs.declared.reply.Event.TheVariants.{Start, Resume, Abandon}
 use Rattle.ob_model.specs.declared.reply.ParseRun.{ParseRun}
 use Rattle.ob_model.specs.declared.reply.ParseRun.TheVariants as run
-use Rattle.ob_model.specs.declared.state.Pending.{Pending}
+use Rattle.ob_model.specs.declared.state.PendingOpen.{PendingOpen}
 use Rattle.ob_model.specs.State.{State, is_live}
 use Rattle.ob_model.specs.PendingOpens.{face_of, pending_of, without_pending, with_instance}
 use Rattle.ob_model.specs.Procedures.{Procedures, ParseOutcome, EndsItself, EndsMade, EndsReparse, EndsRefused, ParseEnds}
@@ -37,7 +37,7 @@ module _ {K T F I : Type 0} where
 module _ {K T F I : Type 0} (g : Procedures K T F I) where
   -- what a caller brings of the parse of a pending open: nothing where it was not run or found no memory, and
   -- else what the parse of the pinned object over the pending rest ends with
-  abbrev pub IsParsed : State K T F I → Pending K → ParseRun → Option (ParseOutcome F I) → Type 0
+  abbrev pub IsParsed : State K T F I → PendingOpen K → ParseRun → Option (ParseOutcome F I) → Type 0
   IsParsed s x run.Unrun outcome = outcome ≡ None
   IsParsed s x run.NoMemory outcome = outcome ≡ None
   IsParsed s x run.Ran None = ⊥
@@ -59,7 +59,7 @@ module _ {K T F I : Type 0} (g : Procedures K T F I) where
 
   -- what a parse leads to: no memory was found; the pinned object is opened, or the new one; the text is looked
   -- up and what it leads to is opened; or the refusal is the answer
-  abbrev pub EndsOpen : State K T F I → Pending K → Option (ParseOutcome F I) → Answer → State K T F I → Type 0
+  abbrev pub EndsOpen : State K T F I → PendingOpen K → Option (ParseOutcome F I) → Answer → State K T F I → Type 0
   EndsOpen s x None answer t = IsRefused s NoMemory answer t
   EndsOpen s x (Some EndsItself) answer t = OpensAt g s x.process x.attrs x.wanted Success x.object answer t
   EndsOpen s x (Some (EndsMade face inner)) answer t = OpensAt g s x.process x.attrs x.wanted Success x.ticket answer t
@@ -69,11 +69,11 @@ module _ {K T F I : Type 0} (g : Procedures K T F I) where
 
   -- a pending open is resumed: its process is gone, or what its parse leads to; in each case it is pending no
   -- longer, and what then doesn't stay goes
-  abbrev pub Resumes : State K T F I → Pending K → Option (ParseOutcome F I) → Answer → State K T F I → Type 0
+  abbrev pub Resumes : State K T F I → PendingOpen K → Option (ParseOutcome F I) → Answer → State K T F I → Type 0
   Resumes s x outcome answer t =
       let u = parsed_state s x.ticket outcome in
       (v : State K T F I) × Unless ((not (is_live s x.process), ProcessGone) ∷ []) u answer v (EndsOpen u x outcome answer v) × (t ≡ settle g v)
 
   -- a pending open is given up: what its parse made goes
-  abbrev pub Abandons : State K T F I → Pending K → Option (ParseOutcome F I) → Answer → State K T F I → Type 0
+  abbrev pub Abandons : State K T F I → PendingOpen K → Option (ParseOutcome F I) → Answer → State K T F I → Type 0
   Abandons s x outcome answer t = (answer ≡ answers Success) × (t ≡ settle g (parsed_state s x.ticket outcome))

@@ -8,7 +8,7 @@ use Rattle.std.specs.List.{find}
 use Rattle.std.specs.Option.{option_and_then}
 use Rattle.ob_model.specs.declared.state.Body.{Body}
 use Rattle.ob_model.specs.declared.state.Body.TheVariants.{Directory, Link, Other}
-use Rattle.ob_model.specs.declared.state.Pending.{Pending}
+use Rattle.ob_model.specs.declared.state.PendingOpen.{PendingOpen}
 use Rattle.ob_model.specs.declared.state.Wanted.{Wanted}
 use Rattle.ob_model.specs.State.{State, body_of, insert_object}
 
@@ -23,7 +23,7 @@ module _ {K T F I : Type 0} where
   face_of s o = option_and_then face_in (body_of s o)
 
   -- the pending open of a ticket, where there is one
-  abbrev pub pending_of : State K T F I → ℕ → Option (Pending K)
+  abbrev pub pending_of : State K T F I → ℕ → Option (PendingOpen K)
   pending_of s ticket = find (λ x. x.ticket == ticket) s.pending
 
   -- the state with an open of a process that is pending at an object, with this rest for its parse and so many

@@ -8,7 +8,7 @@ use Rattle.ob_model.specs.declared.state.Object.{Object}
 use Rattle.ob_model.specs.declared.state.Row.{Row}
 use Rattle.ob_model.specs.declared.state.Held.{Held}
 use Rattle.ob_model.specs.declared.state.Process.{Process}
-use Rattle.ob_model.specs.declared.state.Pending.{Pending}
+use Rattle.ob_model.specs.declared.state.PendingOpen.{PendingOpen}
 use Rattle.ob_model.specs.Names.{IsComponent}
 use Rattle.ob_model.specs.Paths.{is_match}
 use Rattle.ob_model.specs.Closing.{is_handle}
@@ -75,7 +75,7 @@ module _ {F I : Type 0} where
 module _ {K F I : Type 0} where
   -- The object that each pending open pins is there. The tickets rise, were drawn after the objects that they
   -- pin, and are no object's numbers.
-  pub record AreSoundPending (objects : List (Object F I)) (next_id : ℕ) (pending : List (Pending K)) : Type 0 where
+  pub record AreSoundPending (objects : List (Object F I)) (next_id : ℕ) (pending : List (PendingOpen K)) : Type 0 where
     pub standing : All (λ x. StandsAmong objects x.object) pending
     pub ticketed : All (λ x. x.ticket < next_id) pending
     pub later : All (λ x. x.object < x.ticket) pending

@@ -12,7 +12,7 @@ use Rattle.ob_model.specs.declared.state.Object.{Object}
 use Rattle.ob_model.specs.declared.state.Row.{Row}
 use Rattle.ob_model.specs.declared.state.Held.{Held}
 use Rattle.ob_model.specs.declared.state.Process.{Process}
-use Rattle.ob_model.specs.declared.state.Pending.{Pending}
+use Rattle.ob_model.specs.declared.state.PendingOpen.{PendingOpen}
 
 -- The state of a namespace whose set of types has kinds K, a value T of its own, faces F and
 -- inner values I.
@@ -26,7 +26,7 @@ pub record State (K T F I : Type 0) : Type 0 where
   -- the live processes, by rising numbers
   pub processes : List Process
   -- the pending opens, by rising tickets
-  pub pending : List (Pending K)
+  pub pending : List (PendingOpen K)
   -- the value of the set of types
   pub set : T
   -- the number that the next object gets, or the next ticket

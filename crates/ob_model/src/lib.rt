@@ -6,6 +6,7 @@
 #![tactic(auto)]
 
 mod bytes;
+pub mod choices;
 mod command;
 mod entries;
 pub mod examples;
@@ -20,5 +21,5 @@ pub use command::{Command, Place};
 pub use entries::{Entries, Listed, TypeName};
 pub use handles::Handles;
 pub use reply::{Answer, Event, Given, ParseRun, Reply};
-pub use state::{Body, Held, Object, Pending, Process, Row, Wanted};
+pub use state::{Body, Held, Object, PendingOpen, Process, Row, Wanted};
 pub use terms::{GrantOptions, Mode, Reason};

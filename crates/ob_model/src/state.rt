@@ -86,7 +86,7 @@ pub enum Wanted<K> {
 
 /// An open whose parse procedure is still to be run: it pins the object that it reached.
 #[derive(Debug, Drop)]
-pub struct Pending<K> {
+pub struct PendingOpen<K> {
     /// Its ticket, which is also the number of the object that its parse may make.
     pub ticket: u64,
     /// The process that asked.

@@ -8,7 +8,7 @@ use Rattle.ob_base.specs.declared.status.Status.TheVariants.{Success}
 use Rattle.ob_model.specs.declared.reply.Answer.{Answer}
 use Rattle.ob_model.specs.declared.reply.Event.TheVariants.{Abandon}
 use Rattle.ob_model.specs.declared.reply.ParseRun.{ParseRun}
-use Rattle.ob_model.specs.declared.state.Pending.{Pending}
+use Rattle.ob_model.specs.declared.state.PendingOpen.{PendingOpen}
 use Rattle.ob_model.specs.Parses.{parsed_state, IsBrought, IsParsed, Abandons}
 use Rattle.ob_model.specs.PendingOpens.{face_of, pending_of, without_pending}
 use Rattle.ob_model.specs.Procedures.{Procedures, ParseOutcome, EndsItself, EndsMade, EndsReparse, EndsRefused}
@@ -32,18 +32,18 @@ either_way false P granted refused = refused refl
 module _ {K T F I : Type 0} (g : Procedures K T F I) (s : State K T F I) (asked : ToRun F) where
   -- no open is pending under its ticket
   pub none_pending : pending_of s asked.ticket ≡ None → IsAwaited g s asked → ⊥
-  none_pending none h = subst (λ (o : Option (Pending K)). MatchOption o ⊥ (λ x. MatchOption (face_of s x.object) ⊥ (λ pinned. IsFor g asked x pinned))) none h
+  none_pending none h = subst (λ (o : Option (PendingOpen K)). MatchOption o ⊥ (λ x. MatchOption (face_of s x.object) ⊥ (λ pinned. IsFor g asked x pinned))) none h
 
-  module _ (x : Pending K) (found : pending_of s asked.ticket ≡ Some x) where
+  module _ (x : PendingOpen K) (found : pending_of s asked.ticket ≡ Some x) where
     into : (f : Option F) → face_of s x.object ≡ f → MatchOption f ⊥ (λ pinned. IsFor g asked x pinned) → IsAwaited g s asked
     into f is h =
-        subst (λ (o : Option (Pending K)). MatchOption o ⊥ (λ y. MatchOption (face_of s y.object) ⊥ (λ pinned. IsFor g asked y pinned))) (sym found)
+        subst (λ (o : Option (PendingOpen K)). MatchOption o ⊥ (λ y. MatchOption (face_of s y.object) ⊥ (λ pinned. IsFor g asked y pinned))) (sym found)
         (subst (λ (p : Option F). MatchOption p ⊥ (λ pinned. IsFor g asked x pinned)) (sym is) h)
 
     out : (f : Option F) → face_of s x.object ≡ f → IsAwaited g s asked → MatchOption f ⊥ (λ pinned. IsFor g asked x pinned)
     out f is h =
         subst (λ (p : Option F). MatchOption p ⊥ (λ pinned. IsFor g asked x pinned)) is
-        (subst (λ (o : Option (Pending K)). MatchOption o ⊥ (λ y. MatchOption (face_of s y.object) ⊥ (λ pinned. IsFor g asked y pinned))) found h)
+        (subst (λ (o : Option (PendingOpen K)). MatchOption o ⊥ (λ y. MatchOption (face_of s y.object) ⊥ (λ pinned. IsFor g asked y pinned))) found h)
 
     module _ (store : Entries F I) (shows : Shows s store) where
       -- the object that it pins isn't there
@@ -72,9 +72,9 @@ module _ {K T F I : Type 0} (g : Procedures K T F I) (s : State K T F I) (asked 
           is_for h = out (Some (arc_value face)) faced h
 
 -- what the machine takes of a parse comes with its abandon
-pub comes : {K T F I : Type 0} (g : Procedures K T F I) (s : State K T F I) (ticket : ℕ) (x : Pending K) (found : pending_of s ticket ≡ Some x) (parse : ParseRun) (outcome : Option (ParseOutcome F I))
+pub comes : {K T F I : Type 0} (g : Procedures K T F I) (s : State K T F I) (ticket : ℕ) (x : PendingOpen K) (found : pending_of s ticket ≡ Some x) (parse : ParseRun) (outcome : Option (ParseOutcome F I))
     → IsParsed g s x parse outcome → IsBrought g s (Abandon ticket parse) outcome
-comes {K} g s ticket x found parse outcome taken = subst (λ (o : Option (Pending K)). MatchOption o ⊥ (λ y. IsParsed g s y parse outcome)) (sym found) taken
+comes {K} g s ticket x found parse outcome taken = subst (λ (o : Option (PendingOpen K)). MatchOption o ⊥ (λ y. IsParsed g s y parse outcome)) (sym found) taken
 
 -- the outcome of a parse that made an instance, and the state without one
 pub with_inner : {F I : Type 0} (outcome : Option (ParseOutcome F I)) (inner : I) → made_in outcome ≡ Some inner → (face : F) × (outcome ≡ Some (EndsMade face inner))
@@ -93,17 +93,17 @@ module _ {K T F I : Type 0} (g : Procedures K T F I) (s t : State K T F I) where
   without_inner n (Some (EndsRefused k)) e = refl
 
   -- an open whose parse made nothing is given up
-  nothing_made : (ticket : ℕ) (x : Pending K) (outcome : Option (ParseOutcome F I)) → pending_of s ticket ≡ Some x → made_in outcome ≡ None → t ≡ settle g (without_pending s ticket)
+  nothing_made : (ticket : ℕ) (x : PendingOpen K) (outcome : Option (ParseOutcome F I)) → pending_of s ticket ≡ Some x → made_in outcome ≡ None → t ≡ settle g (without_pending s ticket)
       → MatchOption (pending_of s ticket) ⊥ (λ y. Abandons g s y outcome (answers Success) t)
   nothing_made ticket x outcome found nothing left =
-      subst (λ (o : Option (Pending K)). MatchOption o ⊥ (λ y. Abandons g s y outcome (answers Success) t)) (sym found)
+      subst (λ (o : Option (PendingOpen K)). MatchOption o ⊥ (λ y. Abandons g s y outcome (answers Success) t)) (sym found)
       (refl, left ∙ ap (λ (n : ℕ). settle g (without_pending s n)) (sym (has_ticket ticket x s.pending found)) ∙ ap (settle g) (sym (without_inner x.ticket outcome nothing)))
 
   pub nothing_made_there : (ticket : ℕ) (outcome : Option (ParseOutcome F I)) → IsSome (pending_of s ticket) → made_in outcome ≡ None → t ≡ settle g (without_pending s ticket)
       → MatchOption (pending_of s ticket) ⊥ (λ y. Abandons g s y outcome (answers Success) t)
   nothing_made_there ticket outcome there nothing left = go (pending_of s ticket) refl there
     where
-      go : (o : Option (Pending K)) → pending_of s ticket ≡ o → IsSome o → MatchOption (pending_of s ticket) ⊥ (λ y. Abandons g s y outcome (answers Success) t)
+      go : (o : Option (PendingOpen K)) → pending_of s ticket ≡ o → IsSome o → MatchOption (pending_of s ticket) ⊥ (λ y. Abandons g s y outcome (answers Success) t)
       go None e f = absurd (false≢true f)
       go (Some x) e f = nothing_made ticket x outcome e nothing left
 
@@ -114,6 +114,6 @@ module _ {K T F I : Type 0} (g : Procedures K T F I) (s t : State K T F I) where
   instance_made ticket face inner outcome answer is h =
       subst (λ (o : Option (ParseOutcome F I)). MatchOption (pending_of s ticket) ⊥ (λ y. Abandons g s y o (answers Success) t)) (sym is) (go (pending_of s ticket) h)
     where
-      go : (o : Option (Pending K)) → MatchOption o ⊥ (λ y. Abandons g s y (Some (EndsMade face inner)) answer t) → MatchOption o ⊥ (λ y. Abandons g s y (Some (EndsMade face inner)) (answers Success) t)
+      go : (o : Option (PendingOpen K)) → MatchOption o ⊥ (λ y. Abandons g s y (Some (EndsMade face inner)) answer t) → MatchOption o ⊥ (λ y. Abandons g s y (Some (EndsMade face inner)) (answers Success) t)
       go None h = h
       go (Some x) h = (refl, h.1)

@@ -6,7 +6,7 @@ use Rattle.std.specs.Result.{MatchResult}
 use Rattle.std.specs.Option.{option_and_then, option_map}
 use Rattle.ob_base.specs.declared.status.Status.TheVariants.{InsufficientResources}
 use Rattle.ob_model.specs.declared.reply.Answer.TheVariants.{Ticket}
-use Rattle.ob_model.specs.declared.state.Pending.{Pending}
+use Rattle.ob_model.specs.declared.state.PendingOpen.{PendingOpen}
 use Rattle.ob_model.specs.declared.state.Wanted.{Wanted}
 use Rattle.ob_model.specs.Procedures.{Procedures}
 use Rattle.ob_model.specs.State.{State, is_store_full}
@@ -66,11 +66,11 @@ module _ {K T F I : Type 0} (g : Procedures K T F I) (s t : State K T F I) (p at
   abbrev w : State K T F I
   w = with_pending s p attrs wanted o rest n
 
-  abbrev new : Pending K
+  abbrev new : PendingOpen K
   new = record { ticket = s.next_id; process = p; object = o; rest = rest; left = n; attrs = attrs; wanted = wanted }
 
   there : IsParseOf w (record { ticket = s.next_id; face = face; rest = rest })
-  there = subst (λ (x : Option (Pending K)). MatchOption x ⊥ (λ y. (y.rest ≡ rest) × (face_of w y.object ≡ Some face))) (sym (last_found s.next_id new s.pending sound.pending.ticketed refl)) (refl, is)
+  there = subst (λ (x : Option (PendingOpen K)). MatchOption x ⊥ (λ y. (y.rest ≡ rest) × (face_of w y.object ≡ Some face))) (sym (last_found s.next_id new s.pending sound.pending.ticketed refl)) (refl, is)
 
   begun : Ticket ticket ≡ Ticket s.next_id → t ≡ settle g w → IsParseOf t (record { ticket = ticket; face = face; rest = rest })
   begun same left =

@@ -9,7 +9,7 @@ use Rattle.ob_base.specs.declared.status.Status.TheVariants.{InsufficientResourc
 use Rattle.ob_model.specs.declared.reply.Answer.{Answer}
 use Rattle.ob_model.specs.declared.reply.Answer.TheVariants.{Ticket}
 use Rattle.ob_model.specs.declared.state.Object.{Object}
-use Rattle.ob_model.specs.declared.state.Pending.{Pending}
+use Rattle.ob_model.specs.declared.state.PendingOpen.{PendingOpen}
 use Rattle.ob_model.specs.Grants.{first_refusal}
 use Rattle.ob_model.specs.Looks.{Parse}
 use Rattle.ob_model.specs.PendingOpens.{face_in, face_of, pending_of, with_pending, without_pending}
@@ -29,7 +29,7 @@ or_right true b e = refl
 or_right false b e = e
 
 -- the open of the greatest ticket is found under it
-pub last_found : {K : Type 0} (n : ℕ) (y : Pending K) (xs : List (Pending K)) → All (λ x. x.ticket < n) xs → y.ticket ≡ n → find (λ x. x.ticket == n) (xs ++ y ∷ []) ≡ Some y
+pub last_found : {K : Type 0} (n : ℕ) (y : PendingOpen K) (xs : List (PendingOpen K)) → All (λ x. x.ticket < n) xs → y.ticket ≡ n → find (λ x. x.ticket == n) (xs ++ y ∷ []) ≡ Some y
 last_found n y [] all is = rw (eq-eqb y.ticket n is) refl
 last_found {K} n y (x ∷ xs) all is = go (x.ticket == n) refl (last_found n y xs (All-tail (λ z. z.ticket < n) x xs all) is)
   where
@@ -41,7 +41,7 @@ last_found {K} n y (x ∷ xs) all is = go (x.ticket == n) refl (last_found n y x
 Pins : {K T F I : Type 0} → State K T F I → State K T F I → ℕ → List ℕ → ℕ → Type 0
 Pins s t object rest n = MatchOption (pending_of t n) ⊥ (λ y. (y.rest ≡ rest) × (y.object ≡ object)) × (face_of t object ≡ face_of s object)
 
-module _ {K T F I : Type 0} (g : Procedures K T F I) (s : State K T F I) (ticket : ℕ) (x : Pending K) (found : pending_of s ticket ≡ Some x) (object : ℕ) (rest : List ℕ) (left : ℕ) where
+module _ {K T F I : Type 0} (g : Procedures K T F I) (s : State K T F I) (ticket : ℕ) (x : PendingOpen K) (found : pending_of s ticket ≡ Some x) (object : ℕ) (rest : List ℕ) (left : ℕ) where
   -- the state in which the old open is pending no longer, and the one in which the new one is pending beside it
   abbrev w : State K T F I
   w = without_pending s ticket
@@ -49,14 +49,14 @@ module _ {K T F I : Type 0} (g : Procedures K T F I) (s : State K T F I) (ticket
   abbrev both : State K T F I
   both = with_pending s x.process x.attrs x.wanted object rest left
 
-  abbrev new : Pending K
+  abbrev new : PendingOpen K
   new = record { ticket = s.next_id; process = x.process; object = object; rest = rest; left = left; attrs = x.attrs; wanted = x.wanted }
 
   abbrev z : State K T F I
   z = with_pending w x.process x.attrs x.wanted object rest left
 
   -- a state that is shown, with the new open at the end of its opens, and its number drawn
-  pub put_beside : (t : State K T F I) → t ≡ s → (opens : List (Pending K)) → opens ≡ (with_pending t x.process x.attrs x.wanted object rest left).pending
+  pub put_beside : (t : State K T F I) → t ≡ s → (opens : List (PendingOpen K)) → opens ≡ (with_pending t x.process x.attrs x.wanted object rest left).pending
       → record t { pending = opens; next_id = t.next_id + 1 } ≡ with_pending s x.process x.attrs x.wanted object rest left
   put_beside t shown opens last =
       (λ i. record t { pending = last i; next_id = t.next_id + 1 }) ∙ ap (λ (u : State K T F I). with_pending u x.process x.attrs x.wanted object rest left) shown
@@ -98,7 +98,7 @@ module _ {K T F I : Type 0} (g : Procedures K T F I) (s : State K T F I) (ticket
           (is_settled ∙ sym (settle-settle g z))
 
       pinned : is_pinned z object ≡ true
-      pinned = list_any-append (λ (q : Pending K). q.object == object) w.pending _ ∙ or_right (is_pinned w object) _ (ap (λ b. b || false) (eq-eqb object object refl))
+      pinned = list_any-append (λ (q : PendingOpen K). q.object == object) w.pending _ ∙ or_right (is_pinned w object) _ (ap (λ b. b || false) (eq-eqb object object refl))
 
       face_same : face_of (settle g z) object ≡ face_of s object
       face_same = ap (λ (o : Option (Object F I)). option_and_then face_in (option_map (λ y. y.body) o)) (object_of-settle g z object (alive_from_pin z object pinned))
@@ -107,7 +107,7 @@ module _ {K T F I : Type 0} (g : Procedures K T F I) (s : State K T F I) (ticket
       pins_it : Pins s (settle g z) object rest s.next_id
       unfolding Pins
       pins_it = (
-        subst (λ (o : Option (Pending K)). MatchOption o ⊥ (λ y. (y.rest ≡ rest) × (y.object ≡ object)))
+        subst (λ (o : Option (PendingOpen K)). MatchOption o ⊥ (λ y. (y.rest ≡ rest) × (y.object ≡ object)))
             (sym (last_found s.next_id new w.pending (All-filter (λ y. not (y.ticket == ticket)) (λ y. y.ticket < s.next_id) s.pending sound.pending.ticketed) refl)) (refl, refl),
         face_same,
       )

@@ -6,7 +6,7 @@ use Rattle.std.proofs.lemmas.Bool.{false≢true, ne_eqb}
 use Rattle.std.proofs.lemmas.List.Elements.{All-weaker}
 use Rattle.std.proofs.lemmas.List.Folds.{list_any-append}
 use Rattle.ob_model.specs.declared.state.Held.{Held}
-use Rattle.ob_model.specs.declared.state.Pending.{Pending}
+use Rattle.ob_model.specs.declared.state.PendingOpen.{PendingOpen}
 use Rattle.ob_model.specs.declared.state.Row.{Row}
 use Rattle.ob_model.specs.Procedures.{Procedures}
 use Rattle.ob_model.specs.State.{State, root_id}
@@ -39,13 +39,13 @@ moves false false false false true k h' p' k' held pinned kept e = ap (λ x. x |
 moves false false false false false k h' p' k' held pinned kept e = ap (λ x. h' || p' || false || false || x) (kept e) ∙ or_true (h' || p' || false || false)
 
 -- what an open of a list pins is pinned by another one, or is what the open of the ticket pinned
-pinned_apart : {K : Type 0} (ticket o : ℕ) (x : Pending K) (xs : List (Pending K)) → AllPairs (λ a b. a.ticket < b.ticket) xs → find (λ y. y.ticket == ticket) xs ≡ Some x
+pinned_apart : {K : Type 0} (ticket o : ℕ) (x : PendingOpen K) (xs : List (PendingOpen K)) → AllPairs (λ a b. a.ticket < b.ticket) xs → find (λ y. y.ticket == ticket) xs ≡ Some x
     → list_any (λ y. y.object == o) xs ≡ true → ((x.object == o) || list_any (λ y. y.object == o) (filter (λ y. not (y.ticket == ticket)) xs)) ≡ true
 pinned_apart ticket o x [] rising found any = cc
 pinned_apart {K} ticket o x (y ∷ ys) rising found any =
-    go (y.ticket == ticket) refl found any (pinned_apart ticket o x ys (pairs_tail (λ (a b : Pending K). a.ticket < b.ticket) y ys rising))
+    go (y.ticket == ticket) refl found any (pinned_apart ticket o x ys (pairs_tail (λ (a b : PendingOpen K). a.ticket < b.ticket) y ys rising))
   where
-    left : List (Pending K)
+    left : List (PendingOpen K)
     left = filter (λ z. not (z.ticket == ticket)) ys
 
     go : (b : Bool) → (y.ticket == ticket) ≡ b → cond b (Some y) (find (λ z. z.ticket == ticket) ys) ≡ Some x → ((y.object == o) || list_any (λ z. z.object == o) ys) ≡ true
@@ -53,20 +53,20 @@ pinned_apart {K} ticket o x (y ∷ ys) rising found any =
         → ((x.object == o) || list_any (λ z. z.object == o) (cond (not b) (y ∷ left) left)) ≡ true
     go true e is any rest =
         let it : x ≡ y = cc in
-        (λ i. ((it i).object == o) || list_any (λ (z : Pending K). z.object == o) (others i)) ∙ any
+        (λ i. ((it i).object == o) || list_any (λ (z : PendingOpen K). z.object == o) (others i)) ∙ any
       where
         others : left ≡ ys
         others =
             filter_all (λ z. not (z.ticket == ticket)) ys
             (All-weaker (λ z. y.ticket < z.ticket) (λ z. not (z.ticket == ticket) ≡ true)
-            (λ z less. ap not (ne_eqb z.ticket ticket (λ same. omega (arith, less, same, eqb-true y.ticket ticket e)))) ys (pairs_head (λ (a b : Pending K). a.ticket < b.ticket) y ys rising))
+            (λ z less. ap not (ne_eqb z.ticket ticket (λ same. omega (arith, less, same, eqb-true y.ticket ticket e)))) ys (pairs_head (λ (a b : PendingOpen K). a.ticket < b.ticket) y ys rising))
     go false e is any rest = either (y.object == o) any
       where
         either : (b : Bool) → (b || list_any (λ z. z.object == o) ys) ≡ true → ((x.object == o) || (b || list_any (λ z. z.object == o) left)) ≡ true
         either true h = or_true (x.object == o)
         either false h = rest is h
 
-module _ {K T F I : Type 0} (s : State K T F I) (ticket : ℕ) (x : Pending K) (rising : AllPairs (λ a b. a.ticket < b.ticket) s.pending) (found : pending_of s ticket ≡ Some x) (settled : IsSettled s) where
+module _ {K T F I : Type 0} (s : State K T F I) (ticket : ℕ) (x : PendingOpen K) (rising : AllPairs (λ a b. a.ticket < b.ticket) s.pending) (found : pending_of s ticket ≡ Some x) (settled : IsSettled s) where
   -- the state with a handle to the object in place of the open
   abbrev u : State K T F I
   u = with_handle_to (without_pending s ticket) x.object
@@ -115,7 +115,7 @@ module _ {K T F I : Type 0} (s : State K T F I) (ticket : ℕ) (x : Pending K) (
   }
 
 -- where the object has a handle, nothing goes when the open that pins it ends
-module _ {K T F I : Type 0} (s : State K T F I) (ticket : ℕ) (x : Pending K) (rising : AllPairs (λ a b. a.ticket < b.ticket) s.pending) (found : pending_of s ticket ≡ Some x) where
+module _ {K T F I : Type 0} (s : State K T F I) (ticket : ℕ) (x : PendingOpen K) (rising : AllPairs (λ a b. a.ticket < b.ticket) s.pending) (found : pending_of s ticket ≡ Some x) where
   pub unpinned_settled : IsSettled s → has_handle s x.object ≡ true → IsSettled (without_pending s ticket)
   unpinned_settled settled held = record {
     names = settled.names;

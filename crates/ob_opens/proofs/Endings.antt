@@ -8,7 +8,7 @@ use Rattle.ob_base.specs.declared.status.Status.TheVariants.{Success, ProcessGon
 use Rattle.ob_model.specs.declared.reply.Answer.{Answer}
 use Rattle.ob_model.specs.declared.reply.Given.TheVariants.{Handle}
 use Rattle.ob_model.specs.declared.state.Held.{Held}
-use Rattle.ob_model.specs.declared.state.Pending.{Pending}
+use Rattle.ob_model.specs.declared.state.PendingOpen.{PendingOpen}
 use Rattle.ob_model.specs.declared.terms.GrantOptions.{GrantOptions}
 use Rattle.ob_model.specs.Grants.{Grants, first_refusal, with_open, with_handle}
 use Rattle.ob_model.specs.Opens.{options_by, GivesHandle, OpensAt}
@@ -38,7 +38,7 @@ pub is_refused : {K T F I : Type 0} (refusals : List (Bool × Status)) (s : Stat
     → IsRefused s status answer t → Unless refusals s answer t Does
 is_refused refusals s answer t Does status e refused = subst (λ (o : Option Status). MatchOption o Does (λ told. IsRefused s told answer t)) (sym e) refused
 
-module _ {K T F I : Type 0} (g : Procedures K T F I) (s : State K T F I) (ticket : ℕ) (x : Pending K) (found : pending_of s ticket ≡ Some x) where
+module _ {K T F I : Type 0} (g : Procedures K T F I) (s : State K T F I) (ticket : ℕ) (x : PendingOpen K) (found : pending_of s ticket ≡ Some x) where
   -- the state in which the open is pending no longer
   abbrev w : State K T F I
   w = without_pending s ticket
@@ -52,7 +52,7 @@ module _ {K T F I : Type 0} (g : Procedures K T F I) (s : State K T F I) (ticket
         → Unless ((not (is_live s x.process), ProcessGone) ∷ []) (parsed_state s ticket outcome) answer v (EndsOpen g (parsed_state s ticket outcome) x outcome answer v)
         → t ≡ settle g v → MatchOption (pending_of s ticket) ⊥ (λ y. Resumes g s y outcome answer t)
     of_ticket outcome v unless settles =
-        subst (λ (o : Option (Pending K)). MatchOption o ⊥ (λ y. Resumes g s y outcome answer t)) (sym found)
+        subst (λ (o : Option (PendingOpen K)). MatchOption o ⊥ (λ y. Resumes g s y outcome answer t)) (sym found)
         (v, subst (λ n. Unless ((not (is_live s x.process), ProcessGone) ∷ []) (parsed_state s n outcome) answer v (EndsOpen g (parsed_state s n outcome) x outcome answer v)) (sym its_ticket) unless, settles)
 
     -- the process that asked is gone

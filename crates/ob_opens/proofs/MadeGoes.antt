@@ -13,7 +13,7 @@ use Rattle.ob_model.specs.declared.reply.Answer.{Answer}
 use Rattle.ob_model.specs.declared.state.Body.TheVariants.{Other}
 use Rattle.ob_model.specs.declared.state.Held.{Held}
 use Rattle.ob_model.specs.declared.state.Object.{Object}
-use Rattle.ob_model.specs.declared.state.Pending.{Pending}
+use Rattle.ob_model.specs.declared.state.PendingOpen.{PendingOpen}
 use Rattle.ob_model.specs.declared.state.Process.{Process}
 use Rattle.ob_model.specs.declared.state.Row.{Row}
 use Rattle.ob_model.specs.Parses.{Abandons, parsed_state}
@@ -158,8 +158,8 @@ module _ {K T F I : Type 0} (g : Procedures K T F I) (w : State K T F I) (sound 
       let root : (ticket == root_id) ≡ false = ne_eqb ticket root_id (λ same. another_directory root_id sound.objects.root (sym same)) in
       let held : has_handle w ticket ≡ false = list_any_none (λ (h : Held). h.object == ticket) w.handles
       (All-weaker (λ (h : Held). Stands w h.object) (λ h. (h.object == ticket) ≡ false) (λ h stands. ne_eqb h.object ticket (another h.object stands)) w.handles sound.handles.standing) in
-      let pinned : is_pinned w ticket ≡ false = list_any_none (λ (x : Pending K). x.object == ticket) w.pending
-      (All-weaker (λ (x : Pending K). Stands w x.object) (λ x. (x.object == ticket) ≡ false) (λ x stands. ne_eqb x.object ticket (another x.object stands)) w.pending sound.pending.standing) in
+      let pinned : is_pinned w ticket ≡ false = list_any_none (λ (x : PendingOpen K). x.object == ticket) w.pending
+      (All-weaker (λ (x : PendingOpen K). Stands w x.object) (λ x. (x.object == ticket) ≡ false) (λ x stands. ne_eqb x.object ticket (another x.object stands)) w.pending sound.pending.standing) in
       let global : (ticket == global_id) ≡ false = ne_eqb ticket global_id (λ same. another_directory global_id sound.objects.global (sym same)) in
       let maps : list_any (λ p. option_map_or (λ d. d == ticket) p.map false) w.processes ≡ false = list_any_none (λ (p : Process). option_map_or (λ d. d == ticket) p.map false) w.processes
       (All-weaker (HasSoundMap w) (λ p. option_map_or (λ d. d == ticket) p.map false ≡ false) unmapped w.processes sound.processes.maps) in
@@ -190,7 +190,7 @@ module _ {K T F I : Type 0} (g : Procedures K T F I) (w : State K T F I) (sound 
           gone_is_dead false h = refl
 
 -- what the parse of a pending open made goes with the open
-module _ {K T F I : Type 0} (g : Procedures K T F I) (s : State K T F I) (ticket : ℕ) (x : Pending K) (found : pending_of s ticket ≡ Some x) (sound : IsSound s) (settled : IsSettled s)
+module _ {K T F I : Type 0} (g : Procedures K T F I) (s : State K T F I) (ticket : ℕ) (x : PendingOpen K) (found : pending_of s ticket ≡ Some x) (sound : IsSound s) (settled : IsSettled s)
     (rising : AllPairs (λ a b. a.id < b.id) s.objects) where
   numbers : HasTicket s x
   numbers = of_some (HasTicket s) (pending_of s ticket) x found (has_ticket s ticket sound)
@@ -227,5 +227,5 @@ module _ {K T F I : Type 0} (g : Procedures K T F I) (s : State K T F I) (ticket
   given_up answer t told ended =
       let at = some_is (pending_of s ticket) there in
       let is : at.0.ticket ≡ ticket = its_ticket g s ticket at.0 at.1 in
-      subst (λ (o : Option (Pending K)). MatchOption o ⊥ (λ x. Abandons g s x (Some (EndsMade face inner)) answer t)) (sym at.1)
+      subst (λ (o : Option (PendingOpen K)). MatchOption o ⊥ (λ x. Abandons g s x (Some (EndsMade face inner)) answer t)) (sym at.1)
       (told, ended ∙ ap (λ n. settle g (parsed_state s n (Some (EndsMade face inner)))) (sym is))

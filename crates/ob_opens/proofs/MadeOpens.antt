@@ -12,7 +12,7 @@ use Rattle.ob_model.specs.declared.reply.Given.TheVariants.{Handle}
 use Rattle.ob_model.specs.declared.state.Body.TheVariants.{Other}
 use Rattle.ob_model.specs.declared.state.Held.{Held}
 use Rattle.ob_model.specs.declared.state.Object.{Object}
-use Rattle.ob_model.specs.declared.state.Pending.{Pending}
+use Rattle.ob_model.specs.declared.state.PendingOpen.{PendingOpen}
 use Rattle.ob_model.specs.declared.state.Row.{Row}
 use Rattle.ob_model.specs.declared.terms.GrantOptions.{GrantOptions}
 use Rattle.ob_model.specs.Grants.{Grants, first_refusal, opened_object, with_open, with_handle}
@@ -41,7 +41,7 @@ or_right true b e = refl
 or_right false b e = e
 
 -- what a test of its ticket keeps has another ticket
-other_tickets : {K : Type 0} (ticket : ℕ) (xs : List (Pending K)) → All (λ x. x.ticket ≢ ticket) (filter (λ x. not (x.ticket == ticket)) xs)
+other_tickets : {K : Type 0} (ticket : ℕ) (xs : List (PendingOpen K)) → All (λ x. x.ticket ≢ ticket) (filter (λ x. not (x.ticket == ticket)) xs)
 other_tickets ticket xs k d within = λ same.
     let passes : not ((get_or (filter (λ x. not (x.ticket == ticket)) xs) k d).ticket == ticket) ≡ true = filter_passes (λ x. not (x.ticket == ticket)) xs k d within in
     let is : ((get_or (filter (λ x. not (x.ticket == ticket)) xs) k d).ticket == ticket) ≡ true = eq-eqb _ ticket same in
@@ -154,7 +154,7 @@ module _ {K T F I : Type 0} (s : State K T F I) (ticket : ℕ) (free : All (λ y
         (subst (λ n. has_handle (with_handle (with_open g s ticket Opened) p value ticket inherit) n ≡ true) (sym opened_id) has_one) both.set)
 
 -- the endings
-module _ {K T F I : Type 0} (g : Procedures K T F I) (s : State K T F I) (ticket : ℕ) (x : Pending K) (found : pending_of s ticket ≡ Some x) (free : All (λ y. y.id ≢ ticket) s.objects)
+module _ {K T F I : Type 0} (g : Procedures K T F I) (s : State K T F I) (ticket : ℕ) (x : PendingOpen K) (found : pending_of s ticket ≡ Some x) (free : All (λ y. y.id ≢ ticket) s.objects)
     (face : F) (inner : I) (answer : Answer) (t : State K T F I) where
   -- the state in which the open is pending no longer, with what its parse made
   abbrev w : State K T F I

@@ -9,7 +9,7 @@ use Rattle.ob_base.specs.declared.status.Status.{Status}
 use Rattle.ob_model.specs.declared.state.Body.{Body}
 use Rattle.ob_model.specs.declared.state.Body.TheVariants as model
 use Rattle.ob_model.specs.declared.state.Object.{Object}
-use Rattle.ob_model.specs.declared.state.Pending.{Pending}
+use Rattle.ob_model.specs.declared.state.PendingOpen.{PendingOpen}
 use Rattle.ob_model.specs.declared.state.Row.{Row}
 use Rattle.ob_model.specs.declared.terms.GrantOptions.{GrantOptions}
 use Rattle.ob_model.specs.Grants.{Grants}
@@ -137,7 +137,7 @@ module _ (K : Type 0) {T F I : Type 0} (a : Parts K T F I) (s : State K T F I) (
       ∙ taken_out s sound ticket free face inner (state_of K a) is
 
 -- the ticket of a pending open was drawn
-module _ {K T F I : Type 0} (g : Procedures K T F I) (s : State K T F I) (ticket : ℕ) (x : Pending K) (found : pending_of s ticket ≡ Some x) (sound : IsSound s) where
+module _ {K T F I : Type 0} (g : Procedures K T F I) (s : State K T F I) (ticket : ℕ) (x : PendingOpen K) (found : pending_of s ticket ≡ Some x) (sound : IsSound s) where
   pub ticket_drawn : ticket < s.next_id
   ticket_drawn =
       let numbers : HasTicket s x = of_some (HasTicket s) (pending_of s ticket) x found (has_ticket s ticket sound) in

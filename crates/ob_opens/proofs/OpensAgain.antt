@@ -5,7 +5,7 @@ use Rattle.ob_base.specs.declared.status.Status.{Status}
 use Rattle.ob_base.specs.declared.status.Status.TheVariants.{Success, ProcessGone, ObjectTypeMismatch}
 use Rattle.ob_model.specs.declared.reply.Answer.{Answer}
 use Rattle.ob_model.specs.declared.reply.Given.TheVariants.{Handle}
-use Rattle.ob_model.specs.declared.state.Pending.{Pending}
+use Rattle.ob_model.specs.declared.state.PendingOpen.{PendingOpen}
 use Rattle.ob_model.specs.declared.terms.GrantOptions.{GrantOptions}
 use Rattle.ob_model.specs.Grants.{Grants, first_refusal, with_open, with_handle}
 use Rattle.ob_model.specs.Looks.{Look, At, Refused}
@@ -26,27 +26,27 @@ use Rattle.ob_model.proofs.Staying.{granted_settled}
 use Rattle.ob_opens.specs.Again.{OpensAgain}
 use Rattle.ob_opens.proofs.Endings.{is_done, is_refused, of_ticket}
 
-module _ {K T F I : Type 0} (g : Procedures K T F I) (s : State K T F I) (ticket : ℕ) (x : Pending K) (found : pending_of s ticket ≡ Some x) where
+module _ {K T F I : Type 0} (g : Procedures K T F I) (s : State K T F I) (ticket : ℕ) (x : PendingOpen K) (found : pending_of s ticket ≡ Some x) where
   -- the state in which the open is pending no longer
   abbrev w : State K T F I
   w = without_pending s ticket
 
   -- what is done where an open ends so
-  Does : Look → Answer → State K T F I → Pending K → Type 0
+  Does : Look → Answer → State K T F I → PendingOpen K → Type 0
   Does look answer t y = (v : State K T F I) × Opens g w y.process y.attrs y.wanted look answer v × (t ≡ settle g v)
 
   module _ (answer : Answer) (t : State K T F I) where
     -- the open that ends is that of the ticket
     pub opens_again : (look : Look) (v : State K T F I) → Opens g w x.process x.attrs x.wanted look answer v → t ≡ settle g v → OpensAgain g s ticket look answer t
     unfolding Does
-    opens_again look v opens settles = subst (λ (o : Option (Pending K)). MatchOption o ⊥ (Does look answer t)) (sym found) (v, opens, settles)
+    opens_again look v opens settles = subst (λ (o : Option (PendingOpen K)). MatchOption o ⊥ (Does look answer t)) (sym found) (v, opens, settles)
 
     -- an open is resumed whose text was looked up again, where its process is live
     pub resumes_again : (text : List ℕ) (look : Look) → is_live s x.process ≡ true → LooksAgain g w x.process (open_mode x.wanted x.attrs) x.left text look → OpensAgain g s ticket look answer t
         → MatchOption (pending_of s ticket) ⊥ (λ y. Resumes g s y (Some (EndsReparse text)) answer t)
     unfolding Does
     resumes_again text look live looks opens =
-        let does : Does look answer t x = subst (λ (o : Option (Pending K)). MatchOption o ⊥ (Does look answer t)) found opens in
+        let does : Does look answer t x = subst (λ (o : Option (PendingOpen K)). MatchOption o ⊥ (Does look answer t)) found opens in
         of_ticket g s ticket x found answer t (Some (EndsReparse text)) does.0
         (is_done ((not (is_live s x.process), ProcessGone) ∷ []) w answer does.0 _ (ap (λ b. first_refusal ((not b, ProcessGone) ∷ [])) live) (look, looks, does.1)) does.2
 
@@ -110,5 +110,5 @@ granted_is_fit g s u p o value asked sound granted =
     subst AreShadowsFit (sym granted.2) (record { inside = there.rows.inside; shadows = there.objects.shadows })
 
 -- an open that is found under its ticket asked for a live process
-pub live_there : {K T F I : Type 0} (s : State K T F I) (ticket : ℕ) (x : Pending K) → pending_of s ticket ≡ Some x → MatchOption (pending_of s ticket) ⊥ (λ y. is_live s y.process ≡ true) → is_live s x.process ≡ true
-live_there s ticket x found live = subst (λ (o : Option (Pending _)). MatchOption o ⊥ (λ y. is_live s y.process ≡ true)) found live
+pub live_there : {K T F I : Type 0} (s : State K T F I) (ticket : ℕ) (x : PendingOpen K) → pending_of s ticket ≡ Some x → MatchOption (pending_of s ticket) ⊥ (λ y. is_live s y.process ≡ true) → is_live s x.process ≡ true
+live_there s ticket x found live = subst (λ (o : Option (PendingOpen _)). MatchOption o ⊥ (λ y. is_live s y.process ≡ true)) found live

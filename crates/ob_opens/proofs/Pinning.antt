@@ -5,7 +5,7 @@ use Rattle.std.proofs.lemmas.List.Elements.{All-weaker}
 use Rattle.std.proofs.lemmas.List.Folds.{list_any-append}
 use Rattle.ob_base.specs.declared.status.Status.TheVariants.{InsufficientResources}
 use Rattle.ob_model.specs.declared.reply.Answer.TheVariants.{Ticket}
-use Rattle.ob_model.specs.declared.state.Pending.{Pending}
+use Rattle.ob_model.specs.declared.state.PendingOpen.{PendingOpen}
 use Rattle.ob_model.specs.declared.state.Wanted.{Wanted}
 use Rattle.ob_model.specs.Procedures.{Procedures}
 use Rattle.ob_model.specs.State.{State, root_id, is_store_full}
@@ -19,7 +19,7 @@ use Rattle.ob_space.specs.Orderly.{IsOrderly}
 use Rattle.ob_opens.proofs.Stays.{alive_still}
 
 -- a state stays orderly with another value of the set, where other opens are pending, and where numbers were drawn
-pub pending_orderly : {K T F I : Type 0} (idle : I → Type 0) (s : State K T F I) (set : T) (opens : List (Pending K)) (next : ℕ) → IsOrderly idle s → s.next_id ≤ next
+pub pending_orderly : {K T F I : Type 0} (idle : I → Type 0) (s : State K T F I) (set : T) (opens : List (PendingOpen K)) (next : ℕ) → IsOrderly idle s → s.next_id ≤ next
     → IsOrderly idle (record s { set = set; pending = opens; next_id = next })
 pending_orderly idle s set opens next orderly above = record {
   root = orderly.root;
@@ -35,7 +35,7 @@ pending_orderly idle s set opens next orderly above = record {
   few_processes = orderly.few_processes;
 }
 
-pub opens_orderly : {K T F I : Type 0} (idle : I → Type 0) (s : State K T F I) (opens : List (Pending K)) → IsOrderly idle s → IsOrderly idle (record s { pending = opens })
+pub opens_orderly : {K T F I : Type 0} (idle : I → Type 0) (s : State K T F I) (opens : List (PendingOpen K)) → IsOrderly idle s → IsOrderly idle (record s { pending = opens })
 opens_orderly idle s opens orderly = pending_orderly idle s s.set opens s.next_id orderly (omega (arith))
 
 pub set_orderly : {K T F I : Type 0} (idle : I → Type 0) (s : State K T F I) (set : T) → IsOrderly idle s → IsOrderly idle (record s { set = set })
@@ -54,7 +54,7 @@ or_left false b e = cc
 
 module _ {K T F I : Type 0} (g : Procedures K T F I) (s : State K T F I) (p attrs : ℕ) (wanted : Wanted K) (o : ℕ) (rest : List ℕ) (n : ℕ) where
   pinned_still : (x : ℕ) → is_pinned s x ≡ true → is_pinned (with_pending s p attrs wanted o rest n) x ≡ true
-  pinned_still x e = list_any-append (λ (q : Pending K). q.object == x) s.pending _ ∙ or_left (is_pinned s x) _ e
+  pinned_still x e = list_any-append (λ (q : PendingOpen K). q.object == x) s.pending _ ∙ or_left (is_pinned s x) _ e
 
   pub pending_settled : IsSettled s → IsSettled (with_pending s p attrs wanted o rest n)
   pending_settled settled = record {

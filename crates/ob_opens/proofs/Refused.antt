@@ -3,7 +3,7 @@ use Rattle.std.proofs.Common.{◌≡◌, ℕ, ◌==◌, not, cond, Bool, true, f
 use Rattle.std.specs.Prelude.{MatchOption}
 use Rattle.ob_base.specs.declared.status.Status.TheVariants.{ProcessGone}
 use Rattle.ob_model.specs.declared.reply.Answer.{Answer}
-use Rattle.ob_model.specs.declared.state.Pending.{Pending}
+use Rattle.ob_model.specs.declared.state.PendingOpen.{PendingOpen}
 use Rattle.ob_model.specs.Procedures.{Procedures, ParseOutcome, EndsRefused}
 use Rattle.ob_model.specs.State.{State, is_live}
 use Rattle.ob_model.specs.PendingOpens.{pending_of, without_pending}
@@ -13,15 +13,15 @@ use Rattle.ob_model.specs.Settle.{settle}
 use Rattle.ob_opens.specs.Refused.{refusal_of, status_of}
 
 -- the open that is found under a ticket has that ticket
-pub has_ticket : {K : Type 0} (ticket : ℕ) (x : Pending K) (xs : List (Pending K)) → find (λ y. y.ticket == ticket) xs ≡ Some x → x.ticket ≡ ticket
+pub has_ticket : {K : Type 0} (ticket : ℕ) (x : PendingOpen K) (xs : List (PendingOpen K)) → find (λ y. y.ticket == ticket) xs ≡ Some x → x.ticket ≡ ticket
 has_ticket ticket x [] found = cc
 has_ticket {K} ticket x (y ∷ ys) found = go (y.ticket == ticket) refl found (has_ticket ticket x ys)
   where
     go : (b : Bool) → (y.ticket == ticket) ≡ b → cond b (Some y) (find (λ z. z.ticket == ticket) ys) ≡ Some x → (find (λ z. z.ticket == ticket) ys ≡ Some x → x.ticket ≡ ticket) → x.ticket ≡ ticket
-    go true e is rest = let same : y ≡ x = cc in subst (λ (z : Pending K). z.ticket ≡ ticket) same (eqb-true y.ticket ticket e)
+    go true e is rest = let same : y ≡ x = cc in subst (λ (z : PendingOpen K). z.ticket ≡ ticket) same (eqb-true y.ticket ticket e)
     go false e is rest = rest is
 
-module _ {K T F I : Type 0} (g : Procedures K T F I) (s t : State K T F I) (x : Pending K) (answer : Answer) where
+module _ {K T F I : Type 0} (g : Procedures K T F I) (s t : State K T F I) (x : PendingOpen K) (answer : Answer) where
   -- a parse that found no memory or was refused
   pub refuses : (code : Option ℕ) (live : Bool) → live ≡ is_live s x.process → answer ≡ answers (status_of live code) → t ≡ settle g (without_pending s x.ticket)
       → Resumes g s x (refusal_of code) answer t
@@ -32,4 +32,4 @@ module _ {K T F I : Type 0} (g : Procedures K T F I) (s t : State K T F I) (x : 
 
   -- what is told of the open that was found is told of what is pending under the ticket
   pub of_pending : (ticket : ℕ) (outcome : Option (ParseOutcome F I)) → pending_of s ticket ≡ Some x → Resumes g s x outcome answer t → MatchOption (pending_of s ticket) ⊥ (λ y. Resumes g s y outcome answer t)
-  of_pending ticket outcome found told = subst (λ (o : Option (Pending K)). MatchOption o ⊥ (λ y. Resumes g s y outcome answer t)) (sym found) told
+  of_pending ticket outcome found told = subst (λ (o : Option (PendingOpen K)). MatchOption o ⊥ (λ y. Resumes g s y outcome answer t)) (sym found) told

@@ -5,7 +5,7 @@ use Rattle.std.specs.Prelude.{MatchOption, MatchBool, ◌⊎◌, nat_lt}
 use Rattle.ob_base.specs.declared.status.Status.{Status}
 use Rattle.ob_base.specs.declared.status.Status.TheVariants.{InvalidParameter, AccessDenied, InsufficientResources, NameTooLong, ReparseLimit, TypeRefused}
 use Rattle.ob_model.specs.declared.state.Object.{Object}
-use Rattle.ob_model.specs.declared.state.Pending.{Pending}
+use Rattle.ob_model.specs.declared.state.PendingOpen.{PendingOpen}
 use Rattle.ob_model.specs.declared.state.Wanted.{Wanted}
 use Rattle.ob_model.specs.declared.terms.GrantOptions.{GrantOptions}
 use Rattle.ob_model.specs.declared.terms.Mode.{Mode}
@@ -41,10 +41,10 @@ module _ {K T F I : Type 0} (g : Procedures K T F I) (s : State K T F I) where
   passes_at p o asked wanted is passes refused = passes (ap (λ b. not b || is_grant_refused s p o asked) (sym is) ∙ refused)
 
   -- the open of a ticket that a live process asked for isn't refused where its end isn't
-  pub passes_brought : (ticket : ℕ) (x : Pending K) (outcome : Option (ParseOutcome F I)) → pending_of s ticket ≡ Some x → is_live s x.process ≡ true
+  pub passes_brought : (ticket : ℕ) (x : PendingOpen K) (outcome : Option (ParseOutcome F I)) → pending_of s ticket ≡ Some x → is_live s x.process ≡ true
       → (IsEndRefused g s x outcome → ⊥) → IsBroughtRefused g s ticket outcome → ⊥
   passes_brought ticket x outcome found live passes refused =
-      go (subst (λ (o : Option (Pending K)). MatchOption o ⊥ (λ y. (is_live s y.process ≡ false) ⊎ IsEndRefused g s y outcome)) found refused)
+      go (subst (λ (o : Option (PendingOpen K)). MatchOption o ⊥ (λ y. (is_live s y.process ≡ false) ⊎ IsEndRefused g s y outcome)) found refused)
     where
       go : (is_live s x.process ≡ false) ⊎ IsEndRefused g s x outcome → ⊥
       go (inl gone) = true_apart (sym live ∙ gone)

@@ -3,7 +3,7 @@ use Rattle.std.proofs.Common.{◌≡◌, ◌∙◌, ℕ, true, false, List, Opti
 use Rattle.std.specs.Prelude.{MatchOption}
 use Rattle.ob_model.specs.declared.reply.Answer.{Answer}
 use Rattle.ob_model.specs.declared.reply.Event.TheVariants.{Resume, Abandon}
-use Rattle.ob_model.specs.declared.state.Pending.{Pending}
+use Rattle.ob_model.specs.declared.state.PendingOpen.{PendingOpen}
 use Rattle.ob_model.specs.declared.state.Wanted.{Wanted}
 use Rattle.ob_model.specs.declared.terms.Mode.{Mode}
 use Rattle.ob_model.specs.Looks.{Look, Vacant}
@@ -14,7 +14,7 @@ use Rattle.ob_model.specs.Procedures.{Procedures, ParseOutcome, EndsReparse}
 use Rattle.ob_model.specs.State.{State, is_live}
 use Rattle.ob_opens.specs.Again.{OpensAgain}
 use Rattle.ob_opens.proofs.OpensAgain.{resumes_again}
-use Rattle.ob_types.specs.Brought.{run_of_end}
+use Rattle.ob_types.specs.Pending.{run_of_end}
 use Rattle.ob_space.specs.Looking.{IsUsable}
 use Rattle.ob_opens.specs.Waiting.{IsParseOf}
 
@@ -32,7 +32,7 @@ module _ {K T F I : Type 0} (g : Procedures K T F I) (s t : State K T F I) (tick
   as_resumed (Some end) h = h
 
   -- a text was looked up again, and what it leads to is done
-  pub looked : (x : Pending K) (text : List ℕ) (look : Look) (mode : Mode) (answer : Answer) → pending_of s ticket ≡ Some x → is_live s x.process ≡ true → mode ≡ open_mode x.wanted x.attrs
+  pub looked : (x : PendingOpen K) (text : List ℕ) (look : Look) (mode : Mode) (answer : Answer) → pending_of s ticket ≡ Some x → is_live s x.process ≡ true → mode ≡ open_mode x.wanted x.attrs
       → LooksAgain g (without_pending s ticket) x.process mode x.left text look → OpensAgain g s ticket look answer t → MatchOption (pending_of s ticket) ⊥ (λ y. Resumes g s y (Some (EndsReparse text)) answer t)
   looked x text look mode answer found live same looks opens =
       resumes_again g s ticket x found answer t text look live (subst (λ (m : Mode). LooksAgain g (without_pending s ticket) x.process m x.left text look) same looks) opens
@@ -46,6 +46,6 @@ module _ {K T F I : Type 0} (g : Procedures K T F I) (s t : State K T F I) (tick
       → IsParseOf t (record { ticket = ticket; face = face; rest = rest })
   handed object rest face waits is = go (pending_of t ticket) waits
     where
-      go : (o : Option (Pending K)) → MatchOption o ⊥ (λ x. (x.rest ≡ rest) × (x.object ≡ object)) → MatchOption o ⊥ (λ x. (x.rest ≡ rest) × (face_of t x.object ≡ Some face))
+      go : (o : Option (PendingOpen K)) → MatchOption o ⊥ (λ x. (x.rest ≡ rest) × (x.object ≡ object)) → MatchOption o ⊥ (λ x. (x.rest ≡ rest) × (face_of t x.object ≡ Some face))
       go None h = h
       go (Some x) h = (h.0, ap (face_of t) h.1 ∙ is)

@@ -3,7 +3,7 @@
 -- Source: this profile.
 use Rattle.std.specs.Prelude.{◌≡◌, ◌⊎◌, ℕ, Bool, true, false, ◌||◌, not, Option, None, Some, MatchOption}
 use Rattle.ob_model.specs.declared.state.Body.TheVariants.{Other}
-use Rattle.ob_model.specs.declared.state.Pending.{Pending}
+use Rattle.ob_model.specs.declared.state.PendingOpen.{PendingOpen}
 use Rattle.ob_model.specs.Grants.{is_table_full}
 use Rattle.ob_model.specs.Opens.{open_mode, options_by}
 use Rattle.ob_model.specs.PendingOpens.{pending_of, without_pending}
@@ -15,12 +15,12 @@ use Rattle.ob_space.specs.Found.{is_refused_at, is_open_refused_at, IsRefusedWhe
 module _ {K T F I : Type 0} (g : Procedures K T F I) where
   -- the instance that the parse of an open made is of another type, or a handle to it is refused: it isn't exclusive,
   -- and no other process has a handle to it
-  abbrev pub is_instance_refused : State K T F I → Pending K → F → I → Bool
+  abbrev pub is_instance_refused : State K T F I → PendingOpen K → F → I → Bool
   is_instance_refused s x face inner = not (is_wanted g x.wanted (Other face inner)) || ((options_by x.attrs).exclusive || is_table_full s x.process)
 
   -- an open is refused where its parse ended so: at the object itself, at the instance, and at what its text leads to,
   -- where a reparse is left for it
-  abbrev pub IsEndRefused : State K T F I → Pending K → Option (ParseOutcome F I) → Type 0
+  abbrev pub IsEndRefused : State K T F I → PendingOpen K → Option (ParseOutcome F I) → Type 0
   IsEndRefused s x None = Unit {0}
   IsEndRefused s x (Some EndsItself) = is_refused_at g s x.process (options_by x.attrs) x.wanted x.object ≡ true
   IsEndRefused s x (Some (EndsMade face inner)) = is_instance_refused s x face inner ≡ true

@@ -5,7 +5,7 @@ ghost use Rattle.ob_base.specs.declared.status.Status.TheVariants.{Success};
 ghost use Rattle.ob_model.specs.declared.reply.Event.TheVariants.{Abandon};
 ghost use Rattle.ob_model.specs.Refusals.{answers};
 ghost use Rattle.ob_model.specs.Step.{Step};
-ghost use Rattle.ob_types.specs.Brought.{run_of, brought as end_of};
+ghost use Rattle.ob_types.specs.Pending.{run_of, brought as end_of};
 ghost use Rattle.ob_types.specs.Parse.{asked_of};
 ghost use Rattle.ob_space.specs.Orderly.{IsBetweenSteps, IsOrderly};
 ghost use Rattle.ob_types.specs.Parsing.{outcome_of};
@@ -16,7 +16,7 @@ use crate::give_up::give_up_made;
 use crate::unpin::end_parse;
 use ob_handles::HandleTable;
 use ob_space::Space;
-use ob_types::{Brought, Outcome, TypeSet};
+use ob_types::{Outcome, Pending, TypeSet};
 
 /// Gives up the open that waits for a parse, and says whether one does: what the parse made is deleted, and what
 /// the open alone held goes. A stranger's parse is dropped, and nothing changes. No memory is taken.
@@ -25,7 +25,7 @@ use ob_types::{Brought, Outcome, TypeSet};
 ///
 /// Source: Windows Internals, Object Manager (parse methods; object retention); that an open is given up by its
 /// ticket is this profile.
-pub fn abandon<T: TypeSet, H: HandleTable>(space: &mut Space<T, H>, brought: Brought<T>) -> bool
+pub fn abandon<T: TypeSet, H: HandleTable>(space: &mut Space<T, H>, brought: Pending<T>) -> bool
     requires between { IsBetweenSteps T.idle space.old }
     ensures orderly { IsOrderly T.idle space.new }
     ensures exact { IsTrue result ↔ IsAwaited T.procedures space.old (asked_of (end_of brought)) }

@@ -4,18 +4,18 @@ ghost use Rattle.std.specs.Prelude.{◌≡◌, ◌↔◌, IsTrue, IsSome};
 ghost use Rattle.ob_model.specs.declared.reply.Event.TheVariants.{Abandon};
 ghost use Rattle.ob_model.specs.Parses.{IsBrought};
 ghost use Rattle.ob_model.specs.PendingOpens.{pending_of};
-ghost use Rattle.ob_types.specs.Brought.{run_of, brought as end_of};
+ghost use Rattle.ob_types.specs.Pending.{run_of, brought as end_of};
 ghost use Rattle.ob_types.specs.Parse.{asked_of};
 ghost use Rattle.ob_opens.specs.Waiting.{IsAwaited};
 
 use ob_handles::HandleTable;
 use ob_objects::StoredBody;
 use ob_space::Space;
-use ob_types::{Brought, TypeSet};
+use ob_types::{Pending, TypeSet};
 
 /// Whether an open waits for a parse: one is pending under its ticket, over its rest, and the object that it pins
 /// has a face that is found the same. Else the parse is a stranger's. (this profile)
-pub fn is_awaited<T: TypeSet, H: HandleTable>(space: &Space<T, H>, brought: &Brought<T>) -> bool
+pub fn is_awaited<T: TypeSet, H: HandleTable>(space: &Space<T, H>, brought: &Pending<T>) -> bool
     ensures exact { IsTrue result
         ↔ IsAwaited T.procedures space.now (asked_of (end_of brought.now)) }
     ensures taken { IsTrue result

@@ -8,7 +8,7 @@ ghost use Rattle.ob_space.specs.Orderly.{IsBetweenSteps, IsOrderly};
 
 use ob_base::{ObjId, Proc};
 use ob_handles::HandleTable;
-use ob_model::{Bytes, Pending, Wanted};
+use ob_model::{Bytes, PendingOpen, Wanted};
 use ob_space::Space;
 use ob_types::TypeSet;
 use std::alloc::AllocError;
@@ -49,7 +49,7 @@ pub(crate) fn begin_parse<T: TypeSet, H: HandleTable>(
     ensures unchanged { OnErr result (space.new ≡ space.old) }
 {
     let ticket = space.next_id;
-    space.pending.insert(Pending {
+    space.pending.insert(PendingOpen {
         ticket,
         process: request.process,
         object,

@@ -18,7 +18,7 @@ use crate::pinned::{options_by, refuse};
 use crate::unpin::end_parse;
 use ob_base::{Attrs, ObjId, Status};
 use ob_handles::HandleTable;
-use ob_model::{Bytes, Mode, Pending, Reply, Wanted};
+use ob_model::{Bytes, Mode, PendingOpen, Reply, Wanted};
 use ob_space::{Space, grant, is_wanted_at, with_handle};
 use ob_types::{Reason, TypeSet};
 use std::alloc::AllocError;
@@ -149,7 +149,7 @@ pub(crate) fn begin_again<T: TypeSet, H: HandleTable>(
         unreachable!();
     };
     let next = space.next_id;
-    let again = Pending {
+    let again = PendingOpen {
         ticket: next,
         process: pending.process,
         object,

@@ -10,7 +10,7 @@ ghost use Rattle.ob_model.specs.Settle.{IsSettled};
 ghost use Rattle.ob_model.specs.Step.{Step};
 ghost use Rattle.ob_opens.specs.Refused.{refusal_of};
 ghost use Rattle.ob_opens.specs.Refusing.{IsBroughtRefused};
-ghost use Rattle.ob_types.specs.Brought.{run_of_end};
+ghost use Rattle.ob_types.specs.Pending.{run_of_end};
 ghost use Rattle.ob_types.specs.Parse.{asked_of, IfMadeNew};
 ghost use Rattle.ob_space.specs.Orderly.{IsBetweenSteps, IsOrderly};
 ghost use Rattle.ob_types.specs.Parsing.{outcome_of};
@@ -25,7 +25,7 @@ use crate::unpin::refuse_parse;
 use ob_base::{Fault, Status};
 use ob_handles::HandleTable;
 use ob_space::Space;
-use ob_types::{Brought, Outcome, Parsed, TypeSet};
+use ob_types::{Outcome, Parsed, Pending, TypeSet};
 
 /// Brings a parse to the open that waits for it, in the state as it is now. That open is pending no longer:
 ///
@@ -69,7 +69,7 @@ pub fn resume<T: TypeSet, H: HandleTable>(
         IsNotTaken T.procedures space.old (asked_of parsed) (back.0)) }
     ensures back { IfErr result (λ back. back.1 ≡ parsed) }
 {
-    let brought = Brought::Run(parsed);
+    let brought = Pending::Run(parsed);
     let awaited = is_awaited(space, &brought);
     let (ticket, face, rest, outcome) = brought.into_parsed().into_parts();
     if !awaited {

@@ -14,7 +14,7 @@ ghost use Rattle.ob_opens.specs.Refused.{refusal_of, status_of};
 use ob_base::Status;
 use ob_handles::HandleTable;
 use ob_life::settle_after_loss;
-use ob_model::{Given, Pending, Reply};
+use ob_model::{Given, PendingOpen, Reply};
 use ob_space::{Space, is_live};
 use ob_types::TypeSet;
 
@@ -29,7 +29,7 @@ use ob_types::TypeSet;
 pub(crate) fn end_parse<T: TypeSet, H: HandleTable>(
     space: &mut Space<T, H>,
     ticket: u64,
-) -> Option<Pending<T::Kind>>
+) -> Option<PendingOpen<T::Kind>>
     requires orderly { IsOrderly T.idle space.old }
     requires shadows { AreShadowsFit space.old }
     requires settled { IsSettled space.old }

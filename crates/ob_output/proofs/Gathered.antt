@@ -3,8 +3,8 @@ use Rattle.std.proofs.Common.{◌≡◌, ◌∙◌, ℕ, List, [], ◌++◌, ref
 use Rattle.std.specs.Io.KnownBytes.{Appends}
 use Rattle.std.proofs.KnownBytes.{Appends-nil, Appends-trans}
 use Rattle.ob_output.specs.Gathering.{Gathers}
-use Rattle.ob_streams.specs.Writing.{AppendsFront}
-use Rattle.ob_streams.proofs.Writers.{front-append, append-front}
+use Rattle.ob_output.specs.Writing.{AppendsFront}
+use Rattle.ob_output.proofs.Writers.{front-append, append-front}
 
 -- nothing is gathered at first
 pub gathers_nothing : (old : Option (List ℕ)) (had : List ℕ) → Gathers old old had [] had

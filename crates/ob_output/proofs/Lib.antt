@@ -1,2 +1,4 @@
 pub mod Printed
 pub mod Gathered
+pub mod Readers
+pub mod Writers

@@ -1,3 +1,6 @@
 pub mod Printed
 pub mod Misfits
 pub mod Gathering
+pub mod Fault
+pub mod Reading
+pub mod Writing

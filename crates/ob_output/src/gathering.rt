@@ -2,9 +2,9 @@
 
 ghost use Rattle.std.specs.Prelude.{◌≡◌, ◌+◌, ◌≤◌, [], ◌++◌, length, vec_len, vec_capacity, OnOk, OnErr};
 ghost use Rattle.ob_output.specs.Gathering.{Gathers};
-ghost use Rattle.ob_streams.specs.Writing.{AppendsFront};
+ghost use Rattle.ob_output.specs.Writing.{AppendsFront};
 
-use ob_streams::{Unwritten, write_out};
+use crate::writing::{Unwritten, write_out};
 use std::io::Write;
 
 /// Makes room for so many bytes in a block: where it has none, the block is written and emptied. The fault is that of a write, after which a

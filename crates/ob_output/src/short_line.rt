@@ -11,11 +11,11 @@ use itoa::Buffer;
 const ROOM: usize = 45;
 
 /// A line of a number and a short text: at most 45 bytes, which are in the value itself.
-pub type Line = ArrayVec<u8, ROOM>;
+pub type ShortLine = ArrayVec<u8, ROOM>;
 
 /// The line of a number and a text of at most 22 bytes: the number, a colon, a space, the text and LF.
 /// (this profile)
-pub fn text_line(number: u64, text: &[u8]) -> Line
+pub fn text_line(number: u64, text: &[u8]) -> ShortLine
     requires { length text.now ≤ 22 }
     ensures { result.items ≡ output_line number text.now }
 {
@@ -29,7 +29,7 @@ pub fn text_line(number: u64, text: &[u8]) -> Line
 }
 
 // A line with nothing in it.
-fn empty_line() -> Line
+fn empty_line() -> ShortLine
     ensures items { result.items ≡ [] }
     ensures len { array_vec_len result ≡ 0 }
 {
@@ -37,7 +37,7 @@ fn empty_line() -> Line
 }
 
 // Adds a text.
-fn add(line: &mut Line, text: &[u8])
+fn add(line: &mut ShortLine, text: &[u8])
     requires { array_vec_len line.old + length text.now ≤ 45 }
     ensures items { line.new.items ≡ line.old.items ++ text.now }
     ensures len { array_vec_len line.new ≡ array_vec_len line.old + length text.now }

@@ -13,7 +13,7 @@ use Rattle.ob_parts.specs.declared.name.PlaceForm.TheVariants.{Named, Unnamed}
 use Rattle.ob_parts.specs.Text.{Lacks}
 use Rattle.ob_parts.specs.Flags.{IsFlags}
 use Rattle.ob_parts.specs.Kinds.{name_of}
-use Rattle.ob_parts.specs.Parts.{IsHandle, BeginsWithText, BeginsWithName, BeginsWithPlace, BeginsWithKind, BeginsWithWant, BeginsWithFlags, SetsWord, IsFlagsAndWord, IsFlagsTextAndWord, IsNameFlagsAndWord, IsWantNameFlagsAndWord, IsPlaceFlagsTextAndWord}
+use Rattle.ob_parts.specs.Parts.{IsHandle, BeginsWithText, BeginsWithName, BeginsWithPlace, BeginsWithKind, BeginsWithWant, BeginsWithFlags, IsSetting, IsFlagsAndVariable, IsFlagsTextAndVariable, IsNameFlagsAndVariable, IsWantNameFlagsAndVariable, IsPlaceFlagsTextAndVariable}
 use Rattle.ob_parts.proofs.Cuts.{cut_alike, cuts_apart, lacks_no_cut}
 use Rattle.ob_parts.proofs.Spelled.{text_lacks}
 use Rattle.ob_parts.proofs.Handles.{handle_lacks, handle_lacks_colon, handle_lacks_quote, handle_alike}
@@ -26,26 +26,26 @@ apart a b {x} {y} e n = let h : a ≡ b = ap (λ (z : List ℕ). get_or z 0 0) e
 pub differ : (xs ys : List ℕ) → bytes_eq xs ys ≡ false → xs ≡ ys → ⊥
 differ xs ys told e = both_ways _ told ((bytes_eq-Decides xs ys).1 e)
 
--- bytes that a test tells apart from a word are another
-pub told_apart : (line word known : List ℕ) (told : Bool) → told ≡ false → told ≡ bytes_eq line word → word ≡ known → line ≡ known → ⊥
-told_apart line word known told f is w e = both_ways told f (is ∙ (bytes_eq-Decides line word).1 (e ∙ sym w))
+-- bytes that a test tells apart from a variable are another
+pub told_apart : (line variable known : List ℕ) (told : Bool) → told ≡ false → told ≡ bytes_eq line variable → variable ≡ known → line ≡ known → ⊥
+told_apart line variable known told f is w e = both_ways told f (is ∙ (bytes_eq-Decides line variable).1 (e ∙ sym w))
 
 -- what holds of a rest holds of the same rest
 pub moved : (P : List ℕ → Type 0) (a b : List ℕ) → a ≡ b → P b → P a
 moved P a b e p = subst P (sym e) p
 
--- a word and a space, cut behind the word
-pub spaced : (bytes word rest : List ℕ) → bytes ≡ word ++ codes " " ++ rest → bytes ≡ word ++ (0x20 ∷ rest)
-spaced bytes word rest e = e ∙ simp append_assoc
+-- a variable and a space, cut behind the variable
+pub spaced : (bytes variable rest : List ℕ) → bytes ≡ variable ++ codes " " ++ rest → bytes ≡ variable ++ (0x20 ∷ rest)
+spaced bytes variable rest e = e ∙ simp append_assoc
 
--- a word and a colon, cut behind the word
-pub coloned : (bytes word rest : List ℕ) → bytes ≡ word ++ codes ":" ++ rest → bytes ≡ word ++ (0x3A ∷ rest)
-coloned bytes word rest e = e ∙ simp append_assoc
+-- a variable and a colon, cut behind the variable
+pub coloned : (bytes variable rest : List ℕ) → bytes ≡ variable ++ codes ":" ++ rest → bytes ≡ variable ++ (0x3A ∷ rest)
+coloned bytes variable rest e = e ∙ simp append_assoc
 
 -- two cuts at the first space are one cut
-pub spaced_alike : (bytes word rest w r : List ℕ) → Lacks 0x20 word → Lacks 0x20 w → bytes ≡ word ++ (0x20 ∷ rest) → bytes ≡ w ++ codes " " ++ r
-    → (word ≡ w) × (rest ≡ r)
-spaced_alike bytes word rest w r l k e f = cut_alike 0x20 word rest w r l k (sym e ∙ spaced bytes w r f)
+pub spaced_alike : (bytes variable rest w r : List ℕ) → Lacks 0x20 variable → Lacks 0x20 w → bytes ≡ variable ++ (0x20 ∷ rest) → bytes ≡ w ++ codes " " ++ r
+    → (variable ≡ w) × (rest ≡ r)
+spaced_alike bytes variable rest w r l k e f = cut_alike 0x20 variable rest w r l k (sym e ∙ spaced bytes w r f)
 
 -- a text between quotes, cut at its quotes
 pub quoted : (bytes text rest : List ℕ) → bytes ≡ codes "\"" ++ text ++ codes "\" " ++ rest → bytes ≡ 0x22 ∷ (text ++ (0x22 ∷ (0x20 ∷ rest)))
@@ -184,9 +184,9 @@ no_want bytes any kind None r e = any r e
 no_want bytes any kind (Some k) r b = kind k r b
 
 -- bytes that are cut at their first space begin with no other kind, and with no other flags
-pub kind_parts : (bytes word rest : List ℕ) (k : KindForm) (r : List ℕ) → bytes ≡ word ++ (0x20 ∷ rest) → Lacks 0x20 word → BeginsWithKind bytes k r
-    → (word ≡ name_of k) × (rest ≡ r)
-kind_parts bytes word rest k r e l f = spaced_alike bytes word rest (name_of k) r l (kind_lacks k) e f
+pub kind_parts : (bytes variable rest : List ℕ) (k : KindForm) (r : List ℕ) → bytes ≡ variable ++ (0x20 ∷ rest) → Lacks 0x20 variable → BeginsWithKind bytes k r
+    → (variable ≡ name_of k) × (rest ≡ r)
+kind_parts bytes variable rest k r e l f = spaced_alike bytes variable rest (name_of k) r l (kind_lacks k) e f
 
 pub kind_uncut : (bytes : List ℕ) (k : KindForm) (r : List ℕ) → Lacks 0x20 bytes → ¬ BeginsWithKind bytes k r
 kind_uncut bytes k r l e = lacks_no_cut 0x20 bytes (name_of k) r l (spaced bytes (name_of k) r e)
@@ -206,43 +206,43 @@ flags_first_alike bytes a r a' r' (f, is, e) b =
     let parts = flags_parts bytes f r a' r' (spaced bytes f r e) (flags_lack f a is) b in
     (flags_alike f a a' is parts.0, parts.1)
 
--- one word is set
-pub set_alike : (bytes w w' : List ℕ) → SetsWord bytes w → SetsWord bytes w' → w ≡ w'
+-- one variable is set
+pub set_alike : (bytes w w' : List ℕ) → IsSetting bytes w → IsSetting bytes w' → w ≡ w'
 set_alike bytes w w' (is, e) (is', f) =
     ap (drop 1) (sym e ∙ f)
 
 -- a FLAGS =V has one reading, and a FLAGS TEXT =V
-pub ends_alike : (bytes : List ℕ) (a : ℕ) (w : List ℕ) (a' : ℕ) (w' : List ℕ) → IsFlagsAndWord bytes a w → IsFlagsAndWord bytes a' w' → (a ≡ a') × (w ≡ w')
+pub ends_alike : (bytes : List ℕ) (a : ℕ) (w : List ℕ) (a' : ℕ) (w' : List ℕ) → IsFlagsAndVariable bytes a w → IsFlagsAndVariable bytes a' w' → (a ≡ a') × (w ≡ w')
 ends_alike bytes a w a' w' (r, f, s) (r', f', s') =
     let same = flags_first_alike bytes a r a' r' f f' in
-    (same.0, set_alike r w w' s (moved (λ x. SetsWord x w') r r' same.1 s'))
+    (same.0, set_alike r w w' s (moved (λ x. IsSetting x w') r r' same.1 s'))
 
-pub text_ends_alike : (bytes : List ℕ) (a : ℕ) (t w : List ℕ) (a' : ℕ) (t' w' : List ℕ) → IsFlagsTextAndWord bytes a t w → IsFlagsTextAndWord bytes a' t' w'
+pub text_ends_alike : (bytes : List ℕ) (a : ℕ) (t w : List ℕ) (a' : ℕ) (t' w' : List ℕ) → IsFlagsTextAndVariable bytes a t w → IsFlagsTextAndVariable bytes a' t' w'
     → (a ≡ a') × (t ≡ t') × (w ≡ w')
 text_ends_alike bytes a t w a' t' w' (r, m, f, q, s) (r', m', f', q', s') =
     let same = flags_first_alike bytes a r a' r' f f' in
     let text = text_alike r t m t' m' q (moved (λ x. BeginsWithText x t' m') r r' same.1 q') in
-    (same.0, text.0, set_alike m w w' s (moved (λ x. SetsWord x w') m m' text.1 s'))
+    (same.0, text.0, set_alike m w w' s (moved (λ x. IsSetting x w') m m' text.1 s'))
 
 -- and so have a NAME FLAGS =V and a PLACE FLAGS TEXT =V
 pub name_ends_alike : (bytes : List ℕ) (n : NameForm (List ℕ)) (a : ℕ) (w : List ℕ) (n' : NameForm (List ℕ)) (a' : ℕ) (w' : List ℕ)
-    → IsNameFlagsAndWord bytes n a w → IsNameFlagsAndWord bytes n' a' w' → (n ≡ n') × (a ≡ a') × (w ≡ w')
+    → IsNameFlagsAndVariable bytes n a w → IsNameFlagsAndVariable bytes n' a' w' → (n ≡ n') × (a ≡ a') × (w ≡ w')
 name_ends_alike bytes n a w n' a' w' (r, b, f) (r', b', f') =
     let name = name_alike bytes n r n' r' b b' in
-    let same = ends_alike r a w a' w' f (moved (λ x. IsFlagsAndWord x a' w') r r' name.1 f') in
+    let same = ends_alike r a w a' w' f (moved (λ x. IsFlagsAndVariable x a' w') r r' name.1 f') in
     (name.0, same.0, same.1)
 
 pub place_ends_alike : (bytes : List ℕ) (p : PlaceForm (List ℕ)) (a : ℕ) (t w : List ℕ) (p' : PlaceForm (List ℕ)) (a' : ℕ) (t' w' : List ℕ)
-    → IsPlaceFlagsTextAndWord bytes p a t w → IsPlaceFlagsTextAndWord bytes p' a' t' w' → (p ≡ p') × (a ≡ a') × (t ≡ t') × (w ≡ w')
+    → IsPlaceFlagsTextAndVariable bytes p a t w → IsPlaceFlagsTextAndVariable bytes p' a' t' w' → (p ≡ p') × (a ≡ a') × (t ≡ t') × (w ≡ w')
 place_ends_alike bytes p a t w p' a' t' w' (r, b, f) (r', b', f') =
     let place = place_alike bytes p r p' r' b b' in
-    let same = text_ends_alike r a t w a' t' w' f (moved (λ x. IsFlagsTextAndWord x a' t' w') r r' place.1 f') in
+    let same = text_ends_alike r a t w a' t' w' f (moved (λ x. IsFlagsTextAndVariable x a' t' w') r r' place.1 f') in
     (place.0, same.0, same.1, same.2)
 
 -- a WANT NAME FLAGS =V has one reading
 pub want_ends_alike : (bytes : List ℕ) (k : Option KindForm) (n : NameForm (List ℕ)) (a : ℕ) (w : List ℕ) (k' : Option KindForm) (n' : NameForm (List ℕ)) (a' : ℕ) (w' : List ℕ)
-    → IsWantNameFlagsAndWord bytes k n a w → IsWantNameFlagsAndWord bytes k' n' a' w' → (k ≡ k') × (n ≡ n') × (a ≡ a') × (w ≡ w')
+    → IsWantNameFlagsAndVariable bytes k n a w → IsWantNameFlagsAndVariable bytes k' n' a' w' → (k ≡ k') × (n ≡ n') × (a ≡ a') × (w ≡ w')
 want_ends_alike bytes k n a w k' n' a' w' (r, c, s) (r', c', s') =
     let want = want_alike bytes k r k' r' c c' in
-    let same = name_ends_alike r n a w n' a' w' s (moved (λ x. IsNameFlagsAndWord x n' a' w') r r' want.1 s') in
+    let same = name_ends_alike r n a w n' a' w' s (moved (λ x. IsNameFlagsAndVariable x n' a' w') r r' want.1 s') in
     (want.0, same.0, same.1, same.2)

@@ -4,7 +4,7 @@ use Rattle.ob_parts.specs.declared.handle.HandleForm.{HandleForm}
 use Rattle.ob_parts.specs.Text.{Lacks}
 use Rattle.ob_parts.specs.Parts.{IsHandle, BeginsWithHandle, BeginsWithProcess, BeginsWithInherit, SetsProcess}
 use Rattle.ob_parts.proofs.Cuts.{lacks_no_cut}
-use Rattle.ob_parts.proofs.Spelled.{word_lacks}
+use Rattle.ob_parts.proofs.Spelled.{variable_lacks}
 use Rattle.ob_parts.proofs.Handles.{handle_lacks, handle_alike}
 use Rattle.ob_parts.proofs.Parted.{apart, moved, spaced, spaced_alike}
 
@@ -24,15 +24,15 @@ handle_first_alike bytes h r h' r' (spelled, is, e) b =
     let parts = handle_parts bytes spelled r h' r' (spaced bytes spelled r e) (handle_lacks spelled h is) b in
     (handle_alike spelled h h' is parts.0, parts.1)
 
--- and with no other process word
-pub process_parts : (bytes word rest p r : List ℕ) → bytes ≡ word ++ (0x20 ∷ rest) → Lacks 0x20 word → BeginsWithProcess bytes p r → (word ≡ p) × (rest ≡ r)
-process_parts bytes word rest p r e l (is, f) = spaced_alike bytes word rest p r l (word_lacks p is.0) e f
+-- and with no other process variable
+pub process_parts : (bytes variable rest p r : List ℕ) → bytes ≡ variable ++ (0x20 ∷ rest) → Lacks 0x20 variable → BeginsWithProcess bytes p r → (variable ≡ p) × (rest ≡ r)
+process_parts bytes variable rest p r e l (is, f) = spaced_alike bytes variable rest p r l (variable_lacks p is.0) e f
 
 pub process_uncut : (bytes p r : List ℕ) → Lacks 0x20 bytes → ¬ BeginsWithProcess bytes p r
 process_uncut bytes p r l (is, e) = lacks_no_cut 0x20 bytes p r l (spaced bytes p r e)
 
 pub process_alike : (bytes p r p' r' : List ℕ) → BeginsWithProcess bytes p r → BeginsWithProcess bytes p' r' → (p ≡ p') × (r ≡ r')
-process_alike bytes p r p' r' (is, e) b = process_parts bytes p r p' r' (spaced bytes p r e) (word_lacks p is.0) b
+process_alike bytes p r p' r' (is, e) b = process_parts bytes p r p' r' (spaced bytes p r e) (variable_lacks p is.0) b
 
 -- bytes begin with one inheritance at most
 pub inherit_alike : (bytes : List ℕ) (i : Bool) (r : List ℕ) (i' : Bool) (r' : List ℕ) → BeginsWithInherit bytes i r → BeginsWithInherit bytes i' r'
@@ -47,7 +47,7 @@ pub no_inherit : (bytes : List ℕ) → ((rest : List ℕ) → bytes ≢ codes "
 no_inherit bytes plain inherit true r e = inherit r e
 no_inherit bytes plain inherit false r e = plain r e
 
--- one process word is set
+-- one process variable is set
 pub set_process_alike : (bytes p p' : List ℕ) → SetsProcess bytes p → SetsProcess bytes p' → p ≡ p'
 set_process_alike bytes p p' (is, e) (is', f) =
     ap (drop 1) (sym e ∙ f)

@@ -2,7 +2,7 @@
 use Rattle.std.proofs.Common.{◌≡◌, ◌≢◌, ℕ, ◌+◌, ◌*◌, inl, inr, List, [], ◌∷◌, refl, subst, arith}
 use Rattle.std.specs.List.{AllByRecursion}
 use Rattle.std.specs.Char.{IsAsciiAlphabetic, IsAsciiAlphanumeric, digit_value}
-use Rattle.ob_parts.specs.Text.{Lacks, IsWord, IsPlain, IsHexDigit, WritesByte, SpellsByte, Spells, IsText, TextsSpellOneThing}
+use Rattle.ob_parts.specs.Text.{Lacks, IsVariable, IsPlain, IsHexDigit, WritesByte, SpellsByte, Spells, IsText, TextsSpellOneThing}
 
 -- a text begins with the spelling of one byte at most
 pub byte_alike : (text : List ℕ) (a b : ℕ) (x y : List ℕ) → SpellsByte text a x → SpellsByte text b y → (a ≡ b) × (x ≡ y)
@@ -41,10 +41,10 @@ text_lacks text (b ∷ bs) (rest, inr (digits, e, (high, low, h, l, v, f)), t) =
     not_quote : (c : ℕ) → IsHexDigit c → c ≢ 0x22
     not_quote c h e = let bad = rw e at h in omega (arith, bad)
 
--- a word has no byte that is neither a letter nor a digit
-word_lacks_other : (m : ℕ) (word : List ℕ) → (IsAsciiAlphanumeric m → ⊥) → IsWord word → Lacks m word
-word_lacks_other m [] foreign w = absurd w
-word_lacks_other m (c ∷ cs) foreign w = (one c (first c w.0), others cs w.1)
+-- a variable has no byte that is neither a letter nor a digit
+variable_lacks_other : (m : ℕ) (variable : List ℕ) → (IsAsciiAlphanumeric m → ⊥) → IsVariable variable → Lacks m variable
+variable_lacks_other m [] foreign w = absurd w
+variable_lacks_other m (c ∷ cs) foreign w = (one c (first c w.0), others cs w.1)
   where
     first : (c : ℕ) → IsAsciiAlphabetic c → IsAsciiAlphanumeric c
     first c (inl h) = inl (inr h)
@@ -57,33 +57,33 @@ word_lacks_other m (c ∷ cs) foreign w = (one c (first c w.0), others cs w.1)
     others [] w = tt
     others (c ∷ cs) w = (one c w.0, others cs w.1)
 
--- a word has no space, no colon, no plus and no quote
-pub word_lacks : (word : List ℕ) → IsWord word → Lacks 0x20 word
-word_lacks word w = word_lacks_other 0x20 word space w
+-- a variable has no space, no colon, no plus and no quote
+pub variable_lacks : (variable : List ℕ) → IsVariable variable → Lacks 0x20 variable
+variable_lacks variable w = variable_lacks_other 0x20 variable space w
   where
     space : IsAsciiAlphanumeric 0x20 → ⊥
     space (inl (inl h)) = omega arith
     space (inl (inr h)) = omega arith
     space (inr h) = omega arith
 
-pub word_lacks_colon : (word : List ℕ) → IsWord word → Lacks 0x3A word
-word_lacks_colon word w = word_lacks_other 0x3A word colon w
+pub variable_lacks_colon : (variable : List ℕ) → IsVariable variable → Lacks 0x3A variable
+variable_lacks_colon variable w = variable_lacks_other 0x3A variable colon w
   where
     colon : IsAsciiAlphanumeric 0x3A → ⊥
     colon (inl (inl h)) = omega arith
     colon (inl (inr h)) = omega arith
     colon (inr h) = omega arith
 
-pub word_lacks_plus : (word : List ℕ) → IsWord word → Lacks 0x2B word
-word_lacks_plus word w = word_lacks_other 0x2B word plus w
+pub variable_lacks_plus : (variable : List ℕ) → IsVariable variable → Lacks 0x2B variable
+variable_lacks_plus variable w = variable_lacks_other 0x2B variable plus w
   where
     plus : IsAsciiAlphanumeric 0x2B → ⊥
     plus (inl (inl h)) = omega arith
     plus (inl (inr h)) = omega arith
     plus (inr h) = omega arith
 
-pub word_lacks_quote : (word : List ℕ) → IsWord word → Lacks 0x22 word
-word_lacks_quote word w = word_lacks_other 0x22 word quote w
+pub variable_lacks_quote : (variable : List ℕ) → IsVariable variable → Lacks 0x22 variable
+variable_lacks_quote variable w = variable_lacks_other 0x22 variable quote w
   where
     quote : IsAsciiAlphanumeric 0x22 → ⊥
     quote (inl (inl h)) = omega arith

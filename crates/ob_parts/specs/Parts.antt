@@ -1,4 +1,4 @@
--- The parts of a line: texts, handles, names, places, kinds, flags, rooms, process variables, inheritance and the word
+-- The parts of a line: texts, handles, names, places, kinds, flags, rooms, process variables, inheritance and the variable
 -- that is set. Handles are alone, or, as all others but the last, at the beginning of bytes that continue after them and
 -- a space. Several parts after one another are alone.
 --
@@ -14,7 +14,7 @@ use Rattle.ob_parts.specs.declared.name.NameForm.{NameForm}
 use Rattle.ob_parts.specs.declared.name.NameForm.TheVariants.{Absolute, Relative}
 use Rattle.ob_parts.specs.declared.name.PlaceForm.{PlaceForm}
 use Rattle.ob_parts.specs.declared.name.PlaceForm.TheVariants.{Named, Unnamed}
-use Rattle.ob_parts.specs.Text.{IsWord, IsProcessWord, IsText}
+use Rattle.ob_parts.specs.Text.{IsVariable, IsProcessVariable, IsText}
 use Rattle.ob_parts.specs.Flags.{IsFlags}
 use Rattle.ob_parts.specs.Kinds.{name_of}
 use Rattle.ob_parts.specs.Pages.{IsRoom}
@@ -39,7 +39,7 @@ offset_value Three = 3
 
 -- a handle: a handle variable, or one with `+1`, `+2` or `+3` directly after it
 abbrev pub IsHandle : List ℕ → HandleForm (List ℕ) → Type 0
-IsHandle bytes handle = IsWord handle.word × (bytes ≡ handle.word ++ offset_text handle.offset)
+IsHandle bytes handle = IsVariable handle.variable × (bytes ≡ handle.variable ++ offset_text handle.offset)
 
 abbrev pub BeginsWithHandle : List ℕ → HandleForm (List ℕ) → List ℕ → Type 0
 BeginsWithHandle bytes handle rest = (spelled : List ℕ) × IsHandle spelled handle × (bytes ≡ spelled ++ codes " " ++ rest)
@@ -79,7 +79,7 @@ BeginsWithRoom bytes room rest = (spelled : List ℕ) × IsRoom spelled room × 
 
 -- a process variable
 abbrev pub BeginsWithProcess : List ℕ → List ℕ → List ℕ → Type 0
-BeginsWithProcess bytes process rest = IsProcessWord process × (bytes ≡ process ++ codes " " ++ rest)
+BeginsWithProcess bytes process rest = IsProcessVariable process × (bytes ≡ process ++ codes " " ++ rest)
 
 -- `inherit`, or `plain` for no inheritance
 abbrev pub BeginsWithInherit : List ℕ → Bool → List ℕ → Type 0
@@ -87,39 +87,39 @@ BeginsWithInherit bytes true rest = bytes ≡ codes "inherit " ++ rest
 BeginsWithInherit bytes false rest = bytes ≡ codes "plain " ++ rest
 
 -- `=V`, with nothing after it
-abbrev pub SetsWord : List ℕ → List ℕ → Type 0
-SetsWord bytes word = IsWord word × (bytes ≡ codes "=" ++ word)
+abbrev pub IsSetting : List ℕ → List ℕ → Type 0
+IsSetting bytes variable = IsVariable variable × (bytes ≡ codes "=" ++ variable)
 
 -- `=Q`, with nothing after it
 abbrev pub SetsProcess : List ℕ → List ℕ → Type 0
-SetsProcess bytes process = IsProcessWord process × (bytes ≡ codes "=" ++ process)
+SetsProcess bytes process = IsProcessVariable process × (bytes ≡ codes "=" ++ process)
 
 -- `FLAGS =V`
-abbrev pub IsFlagsAndWord : List ℕ → ℕ → List ℕ → Type 0
-IsFlagsAndWord bytes attrs word = (rest : List ℕ) × BeginsWithFlags bytes attrs rest × SetsWord rest word
+abbrev pub IsFlagsAndVariable : List ℕ → ℕ → List ℕ → Type 0
+IsFlagsAndVariable bytes attrs variable = (rest : List ℕ) × BeginsWithFlags bytes attrs rest × IsSetting rest variable
 
 -- `FLAGS TEXT =V`
-abbrev pub IsFlagsTextAndWord : List ℕ → ℕ → List ℕ → List ℕ → Type 0
-IsFlagsTextAndWord bytes attrs text word =
-    (rest more : List ℕ) × BeginsWithFlags bytes attrs rest × BeginsWithText rest text more × SetsWord more word
+abbrev pub IsFlagsTextAndVariable : List ℕ → ℕ → List ℕ → List ℕ → Type 0
+IsFlagsTextAndVariable bytes attrs text variable =
+    (rest more : List ℕ) × BeginsWithFlags bytes attrs rest × BeginsWithText rest text more × IsSetting more variable
 
 -- `NAME FLAGS =V`
-abbrev pub IsNameFlagsAndWord : List ℕ → NameForm (List ℕ) → ℕ → List ℕ → Type 0
-IsNameFlagsAndWord bytes name attrs word = (rest : List ℕ) × BeginsWithName bytes name rest × IsFlagsAndWord rest attrs word
+abbrev pub IsNameFlagsAndVariable : List ℕ → NameForm (List ℕ) → ℕ → List ℕ → Type 0
+IsNameFlagsAndVariable bytes name attrs variable = (rest : List ℕ) × BeginsWithName bytes name rest × IsFlagsAndVariable rest attrs variable
 
 -- `WANT NAME FLAGS =V`
-abbrev pub IsWantNameFlagsAndWord : List ℕ → Option KindForm → NameForm (List ℕ) → ℕ → List ℕ → Type 0
-IsWantNameFlagsAndWord bytes want name attrs word =
-    (rest : List ℕ) × BeginsWithWant bytes want rest × IsNameFlagsAndWord rest name attrs word
+abbrev pub IsWantNameFlagsAndVariable : List ℕ → Option KindForm → NameForm (List ℕ) → ℕ → List ℕ → Type 0
+IsWantNameFlagsAndVariable bytes want name attrs variable =
+    (rest : List ℕ) × BeginsWithWant bytes want rest × IsNameFlagsAndVariable rest name attrs variable
 
 -- `PLACE FLAGS TEXT =V`
-abbrev pub IsPlaceFlagsTextAndWord : List ℕ → PlaceForm (List ℕ) → ℕ → List ℕ → List ℕ → Type 0
-IsPlaceFlagsTextAndWord bytes place attrs text word =
-    (rest : List ℕ) × BeginsWithPlace bytes place rest × IsFlagsTextAndWord rest attrs text word
+abbrev pub IsPlaceFlagsTextAndVariable : List ℕ → PlaceForm (List ℕ) → ℕ → List ℕ → List ℕ → Type 0
+IsPlaceFlagsTextAndVariable bytes place attrs text variable =
+    (rest : List ℕ) × BeginsWithPlace bytes place rest × IsFlagsTextAndVariable rest attrs text variable
 
 -- a handle, a name, and a place, whose slices of bytes are seen as the lists that they hold
 abbrev pub handle_seen : HandleForm (Bor (List ℕ)) → HandleForm (List ℕ)
-handle_seen handle = record { word = handle.word.now; offset = handle.offset }
+handle_seen handle = record { variable = handle.variable.now; offset = handle.offset }
 
 abbrev pub name_seen : NameForm (Bor (List ℕ)) → NameForm (List ℕ)
 name_seen (Absolute text) = Absolute text.now

@@ -12,9 +12,9 @@ use Rattle.ob_parts.specs.declared.sort.PartForm.{PartForm}
 use Rattle.ob_parts.specs.declared.sort.PartForm.TheVariants as part
 use Rattle.ob_parts.specs.declared.sort.LastForm.{LastForm}
 use Rattle.ob_parts.specs.declared.sort.LastForm.TheVariants as last
-use Rattle.ob_parts.specs.Text.{IsWord}
+use Rattle.ob_parts.specs.Text.{IsVariable}
 use Rattle.ob_parts.specs.Pages.{mode_text}
-use Rattle.ob_parts.specs.Parts.{BeginsWithText, IsHandle, BeginsWithHandle, BeginsWithName, BeginsWithPlace, BeginsWithKind, BeginsWithWant, BeginsWithFlags, BeginsWithRoom, BeginsWithProcess, BeginsWithInherit, SetsWord, SetsProcess}
+use Rattle.ob_parts.specs.Parts.{BeginsWithText, IsHandle, BeginsWithHandle, BeginsWithName, BeginsWithPlace, BeginsWithKind, BeginsWithWant, BeginsWithFlags, BeginsWithRoom, BeginsWithProcess, BeginsWithInherit, IsSetting, SetsProcess}
 
 -- the bytes begin with a part of this sort, and the rest follows it and a space
 abbrev pub BeginsWithPart : PartForm → List ℕ → List ℕ → Type 0
@@ -33,8 +33,8 @@ BeginsWithPart part.Inherit bytes rest = (inherit : Bool) × BeginsWithInherit b
 abbrev pub IsLastPart : LastForm → List ℕ → Type 0
 IsLastPart last.Handle bytes = (handle : HandleForm (List ℕ)) × IsHandle bytes handle
 IsLastPart last.Mode bytes = (mode : PageMode) × (bytes ≡ mode_text mode)
-IsLastPart last.Variable bytes = IsWord bytes
-IsLastPart last.SetsVariable bytes = (word : List ℕ) × SetsWord bytes word
+IsLastPart last.Variable bytes = IsVariable bytes
+IsLastPart last.SetsVariable bytes = (variable : List ℕ) × IsSetting bytes variable
 IsLastPart last.SetsProcess bytes = (process : List ℕ) × SetsProcess bytes process
 
 -- the bytes are parts of these sorts

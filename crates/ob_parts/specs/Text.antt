@@ -1,4 +1,4 @@
--- Texts: how a script spells bytes, and words.
+-- Texts: how a script spells bytes, and variables.
 --
 -- Source: this profile.
 use Rattle.std.specs.Prelude.{◌≡◌, ◌≢◌, ℕ, ◌+◌, ◌*◌, ◌<◌, ◌≤◌, ◌⊎◌, List, [], ◌∷◌, length, codes}
@@ -9,14 +9,14 @@ use Rattle.std.specs.Char.{IsAsciiAlphabetic, IsAsciiAlphanumeric, digit_value}
 abbrev pub Lacks : ℕ → List ℕ → Type 0
 Lacks b bytes = AllByRecursion (λ c. c ≢ b) bytes
 
--- a word: a letter and up to 31 letters or digits
-abbrev pub IsWord : List ℕ → Type 0
-IsWord [] = ⊥
-IsWord (c ∷ cs) = IsAsciiAlphabetic c × AllByRecursion IsAsciiAlphanumeric cs × (length cs ≤ 31)
+-- a variable: a letter and up to 31 letters or digits
+abbrev pub IsVariable : List ℕ → Type 0
+IsVariable [] = ⊥
+IsVariable (c ∷ cs) = IsAsciiAlphabetic c × AllByRecursion IsAsciiAlphanumeric cs × (length cs ≤ 31)
 
--- a process variable: a word that is none of the language's own
-abbrev pub IsProcessWord : List ℕ → Type 0
-IsProcessWord word = IsWord word × (word ≢ codes "stat") × (word ≢ codes "thread") × (word ≢ codes "join")
+-- a process variable: a variable that is none of the language's own
+abbrev pub IsProcessVariable : List ℕ → Type 0
+IsProcessVariable variable = IsVariable variable × (variable ≢ codes "stat") × (variable ≢ codes "thread") × (variable ≢ codes "join")
 
 -- a byte that stands for itself: 0x20 to 0x7E, but not `"` (0x22) and not `%` (0x25)
 abbrev pub IsPlain : ℕ → Type 0

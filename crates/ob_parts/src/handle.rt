@@ -6,12 +6,12 @@ ghost use Rattle.ob_parts.specs.declared.handle.Offset.{Offset};
 ghost use Rattle.ob_parts.specs.Parts.{IsHandle, handle_seen, offset_text, offset_value};
 
 use crate::split::split_at;
-use crate::text::is_word;
+use crate::text::is_variable;
 
 /// A number that is added to the value of a handle variable. (this profile)
 #[derive(Clone, Copy, PartialEq, Eq, Debug)]
 pub enum Offset {
-    /// Nothing after the word: 0.
+    /// Nothing after the variable: 0.
     Zero,
     /// `+1`.
     One,
@@ -26,7 +26,7 @@ pub enum Offset {
 #[derive(Clone, Copy, PartialEq, Eq, Debug)]
 pub struct HandleForm<T> {
     /// The handle variable.
-    pub word: T,
+    pub variable: T,
     /// What is added to its value.
     pub offset: Offset,
 }
@@ -37,18 +37,18 @@ pub fn handle_of(bytes: &[u8]) -> Option<HandleForm<&[u8]>>
     ensures found { IfSome result (λ handle. IsHandle bytes.now (handle_seen handle)) }
     ensures none { IfNone result ((handle : HandleForm (List ℕ)) → ¬ IsHandle bytes.now handle) }
 {
-    if is_word(bytes) {
+    if is_variable(bytes) {
         return Some(HandleForm {
-            word: bytes,
+            variable: bytes,
             offset: Offset::Zero,
         });
     }
-    let (word, number) = split_at(bytes, b'+')?;
-    if !is_word(word) {
+    let (variable, number) = split_at(bytes, b'+')?;
+    if !is_variable(variable) {
         return None;
     }
     let offset = offset_of(number)?;
-    Some(HandleForm { word, offset })
+    Some(HandleForm { variable, offset })
 }
 
 // The number that follows a `+`.

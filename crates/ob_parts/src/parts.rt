@@ -4,14 +4,14 @@ ghost use Rattle.std.specs.Prelude.{◌≡◌, ◌≤◌, ℕ, List, Option, len
 ghost use Rattle.ob_parts.specs.declared.kind.KindForm.{KindForm};
 ghost use Rattle.ob_parts.specs.declared.name.NameForm.{NameForm};
 ghost use Rattle.ob_parts.specs.declared.name.PlaceForm.{PlaceForm};
-ghost use Rattle.ob_parts.specs.Parts.{BeginsWithText, BeginsWithName, BeginsWithPlace, BeginsWithFlags, SetsWord, name_seen, place_seen, IsFlagsAndWord, IsFlagsTextAndWord, IsNameFlagsAndWord, IsPlaceFlagsTextAndWord, IsWantNameFlagsAndWord};
+ghost use Rattle.ob_parts.specs.Parts.{BeginsWithText, BeginsWithName, BeginsWithPlace, BeginsWithFlags, IsSetting, name_seen, place_seen, IsFlagsAndVariable, IsFlagsTextAndVariable, IsNameFlagsAndVariable, IsPlaceFlagsTextAndVariable, IsWantNameFlagsAndVariable};
 
 use crate::flags::flags_of;
 use crate::handle::handle_of;
 use crate::kind::{KindForm, take_want};
 use crate::name::{NameForm, PlaceForm};
 use crate::split::{behind_byte, split_at};
-use crate::text::{is_text, is_word};
+use crate::text::{is_text, is_variable};
 
 // The text between double quotes with which the bytes begin, and what follows it and a space.
 pub(crate) fn take_text(bytes: &[u8]) -> Option<(&[u8], &[u8])>
@@ -76,84 +76,84 @@ pub(crate) fn take_flags(bytes: &[u8]) -> Option<(u32, &[u8])>
 
 /// The handle variable that is set, where the bytes are `=V`: none where they aren't. Source: this
 /// profile.
-pub fn word_set(bytes: &[u8]) -> Option<&[u8]>
-    ensures found { IfSome result (λ word. SetsWord bytes.now word.now) }
-    ensures none { IfNone result ((word : List ℕ) → ¬ SetsWord bytes.now word) }
+pub fn variable_set(bytes: &[u8]) -> Option<&[u8]>
+    ensures found { IfSome result (λ variable. IsSetting bytes.now variable.now) }
+    ensures none { IfNone result ((variable : List ℕ) → ¬ IsSetting bytes.now variable) }
 {
     match bytes {
-        [b'=', word @ ..] if is_word(word) => Some(word),
+        [b'=', variable @ ..] if is_variable(variable) => Some(variable),
         _ => None,
     }
 }
 
 /// The parts of `FLAGS =V`: the bits of the flags, and the variable that is set. None where the bytes aren't that.
 /// Source: this profile.
-pub fn flags_and_word(bytes: &[u8]) -> Option<(u32, &[u8])>
+pub fn flags_and_variable(bytes: &[u8]) -> Option<(u32, &[u8])>
     requires { length bytes.now ≤ 262144 }
-    ensures found { IfSome result (λ parts. IsFlagsAndWord bytes.now parts.0 parts.1.now) }
-    ensures none { IfNone result ((attrs : ℕ) (word : List ℕ)
-        → ¬ IsFlagsAndWord bytes.now attrs word) }
+    ensures found { IfSome result (λ parts. IsFlagsAndVariable bytes.now parts.0 parts.1.now) }
+    ensures none { IfNone result ((attrs : ℕ) (variable : List ℕ)
+        → ¬ IsFlagsAndVariable bytes.now attrs variable) }
 {
     let (attrs, rest) = take_flags(bytes)?;
-    let word = word_set(rest)?;
-    Some((attrs, word))
+    let variable = variable_set(rest)?;
+    Some((attrs, variable))
 }
 
 // The parts of `FLAGS TEXT =V`.
-fn flags_text_and_word(bytes: &[u8]) -> Option<(u32, &[u8], &[u8])>
+fn flags_text_and_variable(bytes: &[u8]) -> Option<(u32, &[u8], &[u8])>
     requires { length bytes.now ≤ 262144 }
     ensures found { IfSome result (λ parts.
-        IsFlagsTextAndWord bytes.now parts.0 parts.1.now parts.2.now) }
-    ensures none { IfNone result ((attrs : ℕ) (text word : List ℕ)
-        → ¬ IsFlagsTextAndWord bytes.now attrs text word) }
+        IsFlagsTextAndVariable bytes.now parts.0 parts.1.now parts.2.now) }
+    ensures none { IfNone result ((attrs : ℕ) (text variable : List ℕ)
+        → ¬ IsFlagsTextAndVariable bytes.now attrs text variable) }
 {
     let (attrs, rest) = take_flags(bytes)?;
     let (text, rest) = take_text(rest)?;
-    let word = word_set(rest)?;
-    Some((attrs, text, word))
+    let variable = variable_set(rest)?;
+    Some((attrs, text, variable))
 }
 
 /// The parts of `NAME FLAGS =V`: the name, the bits of the flags, and the variable that is set. None where the bytes
 /// aren't that. Source: this profile.
-pub fn name_flags_and_word(bytes: &[u8]) -> Option<(NameForm<&[u8]>, u32, &[u8])>
+pub fn name_flags_and_variable(bytes: &[u8]) -> Option<(NameForm<&[u8]>, u32, &[u8])>
     requires { length bytes.now ≤ 262144 }
     ensures found { IfSome result (λ parts.
-        IsNameFlagsAndWord bytes.now (name_seen parts.0) parts.1 parts.2.now) }
-    ensures none { IfNone result ((name : NameForm (List ℕ)) (attrs : ℕ) (word : List ℕ)
-        → ¬ IsNameFlagsAndWord bytes.now name attrs word) }
+        IsNameFlagsAndVariable bytes.now (name_seen parts.0) parts.1 parts.2.now) }
+    ensures none { IfNone result ((name : NameForm (List ℕ)) (attrs : ℕ) (variable : List ℕ)
+        → ¬ IsNameFlagsAndVariable bytes.now name attrs variable) }
 {
     let (name, rest) = take_name(bytes)?;
-    let (attrs, word) = flags_and_word(rest)?;
-    Some((name, attrs, word))
+    let (attrs, variable) = flags_and_variable(rest)?;
+    Some((name, attrs, variable))
 }
 
 /// The parts of `WANT NAME FLAGS =V`: the kind that is wanted, which is none for `any`, the name, the bits of the
 /// flags, and the variable that is set. None where the bytes aren't that. Source: this profile.
-pub fn want_name_flags_and_word(
+pub fn want_name_flags_and_variable(
     bytes: &[u8],
 ) -> Option<(Option<KindForm>, NameForm<&[u8]>, u32, &[u8])>
     requires { length bytes.now ≤ 262144 }
     ensures found { IfSome result (λ parts.
-        IsWantNameFlagsAndWord bytes.now parts.0 (name_seen parts.1) parts.2 parts.3.now) }
+        IsWantNameFlagsAndVariable bytes.now parts.0 (name_seen parts.1) parts.2 parts.3.now) }
     ensures none { IfNone result ((want : Option KindForm) (name : NameForm (List ℕ)) (attrs : ℕ)
-        (word : List ℕ)
-        → ¬ IsWantNameFlagsAndWord bytes.now want name attrs word) }
+        (variable : List ℕ)
+        → ¬ IsWantNameFlagsAndVariable bytes.now want name attrs variable) }
 {
     let (want, rest) = take_want(bytes)?;
-    let (name, attrs, word) = name_flags_and_word(rest)?;
-    Some((want, name, attrs, word))
+    let (name, attrs, variable) = name_flags_and_variable(rest)?;
+    Some((want, name, attrs, variable))
 }
 
 /// The parts of `PLACE FLAGS TEXT =V`: the place, the bits of the flags, the text, and the variable that is set. None
 /// where the bytes aren't that. Source: this profile.
-pub fn place_flags_text_and_word(bytes: &[u8]) -> Option<(PlaceForm<&[u8]>, u32, &[u8], &[u8])>
+pub fn place_flags_text_and_variable(bytes: &[u8]) -> Option<(PlaceForm<&[u8]>, u32, &[u8], &[u8])>
     requires { length bytes.now ≤ 262144 }
     ensures found { IfSome result (λ parts.
-        IsPlaceFlagsTextAndWord bytes.now (place_seen parts.0) parts.1 parts.2.now parts.3.now) }
-    ensures none { IfNone result ((place : PlaceForm (List ℕ)) (attrs : ℕ) (text word : List ℕ)
-        → ¬ IsPlaceFlagsTextAndWord bytes.now place attrs text word) }
+        IsPlaceFlagsTextAndVariable bytes.now (place_seen parts.0) parts.1 parts.2.now parts.3.now) }
+    ensures none { IfNone result ((place : PlaceForm (List ℕ)) (attrs : ℕ) (text variable : List ℕ)
+        → ¬ IsPlaceFlagsTextAndVariable bytes.now place attrs text variable) }
 {
     let (place, rest) = take_place(bytes)?;
-    let (attrs, text, word) = flags_text_and_word(rest)?;
-    Some((place, attrs, text, word))
+    let (attrs, text, variable) = flags_text_and_variable(rest)?;
+    Some((place, attrs, text, variable))
 }

@@ -6,7 +6,7 @@ ghost use Rattle.ob_parts.specs.Parts.{BeginsWithHandle, BeginsWithInherit, Begi
 
 use crate::handle::{HandleForm, handle_of};
 use crate::split::{behind, split_at};
-use crate::text::is_process_word;
+use crate::text::is_process_variable;
 
 /// The handle with which the bytes begin, `H`, and what follows it and a space: none where they begin with no
 /// handle. Source: this profile.
@@ -23,7 +23,7 @@ pub fn take_handle(bytes: &[u8]) -> Option<(HandleForm<&[u8]>, &[u8])>
 }
 
 /// The process variable with which the bytes begin, `P` or `Q`, and what follows it and a space: none where they
-/// begin with no word, or with one of the language's own. Source: this profile.
+/// begin with no variable, or with one of the language's own. Source: this profile.
 pub fn take_process(bytes: &[u8]) -> Option<(&[u8], &[u8])>
     ensures found { IfSome result (λ found. BeginsWithProcess bytes.now found.0.now found.1.now) }
     ensures shorter { IfSome result (λ found. length found.1.now ≤ length bytes.now) }
@@ -31,7 +31,7 @@ pub fn take_process(bytes: &[u8]) -> Option<(&[u8], &[u8])>
         → ¬ BeginsWithProcess bytes.now process rest) }
 {
     let (process, rest) = split_at(bytes, b' ')?;
-    if !is_process_word(process) {
+    if !is_process_variable(process) {
         return None;
     }
     Some((process, rest))
@@ -59,7 +59,7 @@ pub fn process_set(bytes: &[u8]) -> Option<&[u8]>
     ensures none { IfNone result ((process : List ℕ) → ¬ SetsProcess bytes.now process) }
 {
     match bytes {
-        [b'=', process @ ..] if is_process_word(process) => Some(process),
+        [b'=', process @ ..] if is_process_variable(process) => Some(process),
         _ => None,
     }
 }

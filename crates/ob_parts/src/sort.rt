@@ -6,9 +6,9 @@ ghost use Rattle.ob_parts.specs.Stops.{AreParts, BeginsWithPart, IsLastPart, Sto
 use crate::handle::handle_of;
 use crate::kind::{take_kind, take_want};
 use crate::page::{mode_of, take_room};
-use crate::parts::{take_flags, take_name, take_place, take_text, word_set};
+use crate::parts::{take_flags, take_name, take_place, take_text, variable_set};
 use crate::process::{process_set, take_handle, take_inherit, take_process};
-use crate::text::is_word;
+use crate::text::is_variable;
 
 /// A sort of parts that have a space after them. (this profile)
 #[derive(Clone, Copy, PartialEq, Eq, Debug)]
@@ -141,8 +141,8 @@ fn is_last_part(last: LastForm, bytes: &[u8]) -> bool
     match last {
         LastForm::Handle => handle_of(bytes).is_some(),
         LastForm::Mode => mode_of(bytes).is_some(),
-        LastForm::Variable => is_word(bytes),
-        LastForm::SetsVariable => word_set(bytes).is_some(),
+        LastForm::Variable => is_variable(bytes),
+        LastForm::SetsVariable => variable_set(bytes).is_some(),
         LastForm::SetsProcess => process_set(bytes).is_some(),
     }
 }

@@ -1,18 +1,18 @@
-//! Words and texts.
+//! Variables and texts.
 
 ghost use Rattle.std.specs.Prelude.{◌≡◌, ◌<◌, ◌↔◌, ◌+◌, ℕ, List, length, IsTrue, IfSome, IfNone, IfOk};
 ghost use Rattle.std.specs.Char.{digit_value};
 ghost use Rattle.std.specs.List.{AllByRecursion};
 ghost use Rattle.ob_parts.specs.Plain.{is_plain};
-ghost use Rattle.ob_parts.specs.Text.{IsWord, IsProcessWord, IsPlain, IsHexDigit, SpellsByte, WritesByte, Spells, IsText, TextsSpellOneThing};
+ghost use Rattle.ob_parts.specs.Text.{IsVariable, IsProcessVariable, IsPlain, IsHexDigit, SpellsByte, WritesByte, Spells, IsText, TextsSpellOneThing};
 
 use crate::split::split_at;
 use ob_model::Bytes;
 use std::alloc::{AllocError, Global};
 
-/// Whether the bytes are a word: a letter and up to 31 letters or digits. Source: this profile.
-pub fn is_word(bytes: &[u8]) -> bool
-    ensures { IsTrue result ↔ IsWord bytes.now }
+/// Whether the bytes are a variable: a letter and up to 31 letters or digits. Source: this profile.
+pub fn is_variable(bytes: &[u8]) -> bool
+    ensures { IsTrue result ↔ IsVariable bytes.now }
 {
     let Some((first, others)) = bytes.split_first() else {
         return false;
@@ -23,10 +23,10 @@ pub fn is_word(bytes: &[u8]) -> bool
 }
 
 // Whether the bytes are a process variable.
-pub fn is_process_word(bytes: &[u8]) -> bool
-    ensures { IsTrue result ↔ IsProcessWord bytes.now }
+pub fn is_process_variable(bytes: &[u8]) -> bool
+    ensures { IsTrue result ↔ IsProcessVariable bytes.now }
 {
-    is_word(bytes) && !matches!(bytes, b"stat" | b"thread" | b"join")
+    is_variable(bytes) && !matches!(bytes, b"stat" | b"thread" | b"join")
 }
 
 // The first byte that a text spells, and the rest of the text.

@@ -16,7 +16,7 @@ use Rattle.std.specs.List.Sorted.{IsStrictlySortedBy}
 use Rattle.std.specs.Map.{keys_of, values_of, lookup, remove_entry}
 use Rattle.std.specs.Option.{unwrap_or}
 use Rattle.std.specs.Ordering.{nat_cmp}
-use Rattle.ob_model.specs.declared.state.Pending.{Pending}
+use Rattle.ob_model.specs.declared.state.PendingOpen.{PendingOpen}
 use Rattle.ob_model.specs.State.{greatest_number}
 use Rattle.ob_model.proofs.Ids.{Differ-from_rising, is_at-id, insert_entry-last, remove_entry-id}
 use Rattle.ob_handles.specs.Counts.{Numbers, count_of, one_if, CountsOneMore, CountsOneLess}
@@ -25,7 +25,7 @@ use Rattle.ob_processes.specs.Pending.{Opens, Entries, pins_of, AreKept}
 -- ---- entries that stand under their own tickets
 
 module _ {K : Type 0} where
-  abbrev Own : ℕ × Pending K → Type 0
+  abbrev Own : ℕ × PendingOpen K → Type 0
   Own e = e.1.ticket ≡ e.0
 
   -- what is found under a ticket
@@ -41,12 +41,12 @@ module _ {K : Type 0} where
   left_of_others ticket [] own = refl
   left_of_others ticket (e ∷ es) own =
       go (not (e.0 == ticket)) (left_of_others ticket es (All-tail Own e es own))
-      ∙ ap (λ k. cond (not (k == ticket)) (e.1 ∷ filter (λ (x : Pending K). not (x.ticket == ticket)) (values_of es)) (filter (λ (x : Pending K). not (x.ticket == ticket)) (values_of es)))
+      ∙ ap (λ k. cond (not (k == ticket)) (e.1 ∷ filter (λ (x : PendingOpen K). not (x.ticket == ticket)) (values_of es)) (filter (λ (x : PendingOpen K). not (x.ticket == ticket)) (values_of es)))
       (sym (All-head Own e es own))
     where
-      go : (b : Bool) → map (λ (x : ℕ × Pending K). x.1) (filter (λ (x : ℕ × Pending K). not (x.0 == ticket)) es) ≡ filter (λ (x : Pending K). not (x.ticket == ticket)) (values_of es)
-          → map (λ (x : ℕ × Pending K). x.1) (cond b (e ∷ filter (λ (x : ℕ × Pending K). not (x.0 == ticket)) es) (filter (λ (x : ℕ × Pending K). not (x.0 == ticket)) es))
-          ≡ cond b (e.1 ∷ filter (λ (x : Pending K). not (x.ticket == ticket)) (values_of es)) (filter (λ (x : Pending K). not (x.ticket == ticket)) (values_of es))
+      go : (b : Bool) → map (λ (x : ℕ × PendingOpen K). x.1) (filter (λ (x : ℕ × PendingOpen K). not (x.0 == ticket)) es) ≡ filter (λ (x : PendingOpen K). not (x.ticket == ticket)) (values_of es)
+          → map (λ (x : ℕ × PendingOpen K). x.1) (cond b (e ∷ filter (λ (x : ℕ × PendingOpen K). not (x.0 == ticket)) es) (filter (λ (x : ℕ × PendingOpen K). not (x.0 == ticket)) es))
+          ≡ cond b (e.1 ∷ filter (λ (x : PendingOpen K). not (x.ticket == ticket)) (values_of es)) (filter (λ (x : PendingOpen K). not (x.ticket == ticket)) (values_of es))
       go true more = ap (λ (xs : Opens K). e.1 ∷ xs) more
       go false more = more
 
@@ -54,13 +54,13 @@ module _ {K : Type 0} where
   below_inside : (ticket : ℕ) (es : Entries K) → All Own es → All (λ x. x.ticket < ticket) (values_of es) → All (λ e. e.0 < ticket) es
   below_inside ticket [] own below = All-nil (λ e. e.0 < ticket)
   below_inside ticket (e ∷ es) own below =
-      All-cons (λ (x : ℕ × Pending K). x.0 < ticket) e es
-      (subst (λ k. k < ticket) (All-head Own e es own) (All-head (λ (x : Pending K). x.ticket < ticket) e.1 (values_of es) below))
-      (below_inside ticket es (All-tail Own e es own) (All-tail (λ (x : Pending K). x.ticket < ticket) e.1 (values_of es) below))
+      All-cons (λ (x : ℕ × PendingOpen K). x.0 < ticket) e es
+      (subst (λ k. k < ticket) (All-head Own e es own) (All-head (λ (x : PendingOpen K). x.ticket < ticket) e.1 (values_of es) below))
+      (below_inside ticket es (All-tail Own e es own) (All-tail (λ (x : PendingOpen K). x.ticket < ticket) e.1 (values_of es) below))
 
   above : (o : ℕ) (es : Entries K) → AllByRecursion (λ y. nat_cmp o y ≡ Less) (keys_of es) → All (λ e. o < e.0) es
   above o [] rising = All-nil (λ e. o < e.0)
-  above o (e ∷ es) rising = All-cons (λ (x : ℕ × Pending K). o < x.0) e es (less o e.0 rising.0) (above o es rising.1)
+  above o (e ∷ es) rising = All-cons (λ (x : ℕ × PendingOpen K). o < x.0) e es (less o e.0 rising.0) (above o es rising.1)
     where
       less : (a b : ℕ) → nat_cmp a b ≡ Less → a < b
       less a b is = grind (arith, nat_tests)
@@ -68,8 +68,8 @@ module _ {K : Type 0} where
   tickets_rise : (es : Entries K) → IsStrictlySortedBy nat_cmp (keys_of es) → All Own es → AllPairs (λ a b. a.ticket < b.ticket) (values_of es)
   tickets_rise [] rising own = λ i j d before below. absurd (omega (arith, below))
   tickets_rise (e ∷ es) rising own =
-      AllPairs-cons (λ (a b : Pending K). a.ticket < b.ticket) e.1 (values_of es)
-      (All-map (λ (x : Pending K). e.1.ticket < x.ticket) (λ (x : ℕ × Pending K). x.1) es (λ k d below. later (get_or es k d) (behind k d below) (tail k d below)))
+      AllPairs-cons (λ (a b : PendingOpen K). a.ticket < b.ticket) e.1 (values_of es)
+      (All-map (λ (x : PendingOpen K). e.1.ticket < x.ticket) (λ (x : ℕ × PendingOpen K). x.1) es (λ k d below. later (get_or es k d) (behind k d below) (tail k d below)))
       (tickets_rise es (sorted_tail nat_cmp e.0 (keys_of es) rising) tail)
     where
       tail : All Own es
@@ -78,14 +78,14 @@ module _ {K : Type 0} where
       behind : All (λ x. e.0 < x.0) es
       behind = above e.0 es (sorted_head nat_cmp e.0 (keys_of es) rising)
 
-      later : (x : ℕ × Pending K) → e.0 < x.0 → x.1.ticket ≡ x.0 → e.1.ticket < x.1.ticket
+      later : (x : ℕ × PendingOpen K) → e.0 < x.0 → x.1.ticket ≡ x.0 → e.1.ticket < x.1.ticket
       later x before own_ticket = let first : e.1.ticket ≡ e.0 = All-head Own e es own in omega (arith, before, own_ticket, first)
 
   -- an open pins an object where one at least is counted
   some_pins : (object : ℕ) (opens : Opens K) → nat_lt 0 (pins_of opens object) ≡ list_any (λ p. p.object == object) opens
   some_pins object [] = refl
   some_pins object (x ∷ opens) =
-      ap (nat_lt 0) (sum_by-cons (λ (y : Pending K). cond (y.object == object) 1 0) x opens) ∙ go (x.object == object) (some_pins object opens)
+      ap (nat_lt 0) (sum_by-cons (λ (y : PendingOpen K). cond (y.object == object) 1 0) x opens) ∙ go (x.object == object) (some_pins object opens)
     where
       go : (b : Bool) → nat_lt 0 (pins_of opens object) ≡ list_any (λ p. p.object == object) opens
           → nat_lt 0 (cond b 1 0 + pins_of opens object) ≡ (b || list_any (λ p. p.object == object) opens)
@@ -99,7 +99,7 @@ module _ {K : Type 0} where
           none n = omega arith
 
   -- an open pins its own object once
-  one_pin : (x : Pending K) (object : ℕ) → cond (x.object == object) 1 0 ≡ one_if x.object object
+  one_pin : (x : PendingOpen K) (object : ℕ) → cond (x.object == object) 1 0 ≡ one_if x.object object
   one_pin x object = ap (λ t. cond t 1 0) (turned x.object object)
     where
       turned : (a b : ℕ) → (a == b) ≡ (b == a)
@@ -109,7 +109,7 @@ module _ {K : Type 0} where
 
   module _ (es : Entries K) (pins : Numbers) (are : AreKept es pins) (now : Opens K) (same : values_of es ≡ now) where
     pub rising : AllPairs (λ a b. a.ticket < b.ticket) now
-    rising = subst (AllPairs (λ (a b : Pending K). a.ticket < b.ticket)) same (tickets_rise es are.rising are.own)
+    rising = subst (AllPairs (λ (a b : PendingOpen K). a.ticket < b.ticket)) same (tickets_rise es are.rising are.own)
 
     pub found_now : (ticket : ℕ) → lookup (is_at (nat_cmp ticket)) es ≡ find (λ x. x.ticket == ticket) now
     found_now ticket = found ticket es are.own ∙ ap (find (λ x. x.ticket == ticket)) same
@@ -119,23 +119,23 @@ module _ {K : Type 0} where
 
     -- ---- an open more
 
-    module _ (x : Pending K) (newest : All (λ y. y.ticket < x.ticket) now) where
+    module _ (x : PendingOpen K) (newest : All (λ y. y.ticket < x.ticket) now) where
       below : All (λ e. e.0 < x.ticket) es
-      below = below_inside x.ticket es are.own (subst (All (λ (y : Pending K). y.ticket < x.ticket)) (sym same) newest)
+      below = below_inside x.ticket es are.own (subst (All (λ (y : PendingOpen K). y.ticket < x.ticket)) (sym same) newest)
 
       -- fewer opens are pending than there are tickets below the new one
       pub room : (object : ℕ) → x.ticket ≤ greatest_number → count_of pins object ≤ greatest_number
       room object drawn =
           let count : count_of pins object ≡ pins_of (values_of es) object = are.counts object in
-          let few : length (keys_of es) ≤ x.ticket = length-le_from_below x.ticket (keys_of es) are.rising (All-map (λ k. k < x.ticket) (λ (e : ℕ × Pending K). e.0) es below) in
-          omega (arith, count, few, drawn, count_by-le-length (λ (y : Pending K). y.object == object) (values_of es), length-keys_of es, length-values_of es)
+          let few : length (keys_of es) ≤ x.ticket = length-le_from_below x.ticket (keys_of es) are.rising (All-map (λ k. k < x.ticket) (λ (e : ℕ × PendingOpen K). e.0) es below) in
+          omega (arith, count, few, drawn, count_by-le-length (λ (y : PendingOpen K). y.object == object) (values_of es), length-keys_of es, length-values_of es)
 
       module _ (new : Entries K) (put : new ≡ insert_entry nat_cmp es x.ticket x) where
         comes_last : new ≡ es ++ (x.ticket, x) ∷ []
         comes_last = put ∙ insert_entry-last x.ticket x es below
 
         values_last : values_of new ≡ values_of es ++ x ∷ []
-        values_last = ap values_of comes_last ∙ map-append (λ (e : ℕ × Pending K). e.1) es ((x.ticket, x) ∷ [])
+        values_last = ap values_of comes_last ∙ map-append (λ (e : ℕ × PendingOpen K). e.1) es ((x.ticket, x) ∷ [])
 
         pub last_now : values_of new ≡ now ++ x ∷ []
         last_now = values_last ∙ ap (λ (xs : Opens K). xs ++ x ∷ []) same
@@ -145,7 +145,7 @@ module _ {K : Type 0} where
           rising = rises;
           own = subst (λ (n : Entries K). All Own n) (sym comes_last) (All-push Own es (x.ticket, x) are.own refl);
           counts = λ other.
-              let pin : Pending K → ℕ = λ y. cond (y.object == other) 1 0 in
+              let pin : PendingOpen K → ℕ = λ y. cond (y.object == other) 1 0 in
               let one : pins_of (x ∷ []) other ≡ pin x + 0 = sum_by-cons pin x [] in
               let once : pin x ≡ one_if x.object other = one_pin x other in
               let sum : pins_of (values_of new) other ≡ pins_of (values_of es) other + pins_of (x ∷ []) other =
@@ -161,15 +161,15 @@ module _ {K : Type 0} where
       pub others_now : values_of left ≡ filter (λ x. not (x.ticket == ticket)) now
       others_now =
           ap values_of (taken ∙ remove_entry-id ticket es (Differ-from_rising es are.rising)) ∙ left_of_others ticket es are.own
-          ∙ ap (filter (λ (x : Pending K). not (x.ticket == ticket))) same
+          ∙ ap (filter (λ (x : PendingOpen K). not (x.ticket == ticket))) same
 
-      pub fewer_kept : (x : Pending K) (after : Numbers) → lookup (is_at (nat_cmp ticket)) es ≡ Some x → IsStrictlySortedBy nat_cmp (keys_of left) → CountsOneLess x.object pins after
+      pub fewer_kept : (x : PendingOpen K) (after : Numbers) → lookup (is_at (nat_cmp ticket)) es ≡ Some x → IsStrictlySortedBy nat_cmp (keys_of left) → CountsOneLess x.object pins after
           → AreKept left after
       fewer_kept x after there rises less = record {
         rising = rises;
         own = subst (λ (n : Entries K). All Own n) (sym taken) (kept_own es are.own);
         counts = λ other.
-            let pin : Pending K → ℕ = λ y. cond (y.object == other) 1 0 in
+            let pin : PendingOpen K → ℕ = λ y. cond (y.object == other) 1 0 in
             let once : pin x ≡ one_if x.object other = one_pin x other in
             let sum : pins_of (values_of left) other + pin x ≡ pins_of (values_of es) other =
             ap (λ (n : Entries K). pins_of (values_of n) other + pin x) taken

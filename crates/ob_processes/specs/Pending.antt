@@ -6,16 +6,16 @@ use Rattle.std.specs.Prelude.{◌≡◌, ℕ, ◌==◌, List, count_by, All}
 use Rattle.std.specs.List.Sorted.{IsStrictlySortedBy}
 use Rattle.std.specs.Map.{keys_of, values_of}
 use Rattle.std.specs.Ordering.{nat_cmp}
-use Rattle.ob_model.specs.declared.state.Pending.{Pending}
+use Rattle.ob_model.specs.declared.state.PendingOpen.{PendingOpen}
 use Rattle.ob_handles.specs.Counts.{Numbers, count_of}
 
 -- pending opens, by rising tickets, as the abstract state has them
 abbrev pub Opens : Type 0 → Type 0
-Opens K = List (Pending K)
+Opens K = List (PendingOpen K)
 
 -- pending opens under the numbers that a map has for them
 abbrev pub Entries : Type 0 → Type 0
-Entries K = List (ℕ × Pending K)
+Entries K = List (ℕ × PendingOpen K)
 
 -- how many opens pin an object
 abbrev pub pins_of : {K : Type 0} → Opens K → ℕ → ℕ

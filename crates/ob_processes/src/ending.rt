@@ -18,12 +18,12 @@ use std::marker::Model;
 /// Source: Windows Internals, Processes (what the end of a process closes); the order of the closes is
 /// this profile.
 #[derive(Drop)]
-pub struct Ending<H: HandleTable> {
+pub struct EndingProcess<H: HandleTable> {
     pub(crate) table: H,
     pub(crate) touched: Touched,
 }
 
-impl<H: HandleTable> Model for Ending<H> {
+impl<H: HandleTable> Model for EndingProcess<H> {
     ghost use Rattle.ob_processes.specs.Counts.{IsCounted};
     ghost use Rattle.ob_processes.specs.Ending.{Leaving};
 
@@ -35,7 +35,7 @@ impl<H: HandleTable> Model for Ending<H> {
     ghost invariant = { λ ending. IsCounted (H.handles ending.table) ending.touched };
 }
 
-impl<H: HandleTable> Ending<H> {
+impl<H: HandleTable> EndingProcess<H> {
     /// Takes out the handle that was opened before the others, and gives it; `None` where none is left.
     /// Its object stays known. Takes no memory.
     pub fn next(&mut self) -> Option<Held>

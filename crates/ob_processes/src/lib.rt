@@ -8,6 +8,6 @@ mod live;
 mod pending;
 mod processes;
 
-pub use ending::Ending;
+pub use ending::EndingProcess;
 pub use pending::PendingOpens;
 pub use processes::Processes;

@@ -11,7 +11,7 @@ ghost use Rattle.ob_model.specs.Grants.{IsHandleValue};
 ghost use Rattle.ob_handles.specs.Table.{IsUnused, without};
 ghost use Rattle.ob_handles.specs.Counts.{is_listed};
 
-use crate::ending::Ending;
+use crate::ending::EndingProcess;
 use ob_base::{Fault, Handle, ObjId, Proc};
 use ob_handles::{Counts, HandleTable};
 use ob_model::Held;
@@ -166,11 +166,11 @@ impl<H: HandleTable> Live<H> {
         Some(taken)
     }
     /// Gives the remains, where its process is live no longer. Takes no memory.
-    pub(crate) fn into_ending(self) -> Ending<H>
+    pub(crate) fn into_ending(self) -> EndingProcess<H>
         ensures handles { result.handles ≡ self }
         ensures touched { All (λ h. is_listed result.touched h.object ≡ true) result.handles }
     {
         let (table, touched) = (self.table, self.counts.into_touched());
-        Ending { table, touched }
+        EndingProcess { table, touched }
     }
 }

@@ -5,10 +5,11 @@ ghost use Rattle.std.specs.Prelude.{length, filter, All, AllPairs, OnOk, OnErr};
 ghost use Rattle.std.specs.List.{find, list_any};
 ghost use Rattle.std.specs.Option.{option_copied};
 ghost use Rattle.ob_model.specs.State.{greatest_number};
+ghost use Rattle.ob_processes.specs.Pending.{pins_of};
 
 use ob_base::ObjId;
 use ob_handles::Counts;
-use ob_model::Pending;
+use ob_model::PendingOpen;
 use std::alloc::{AllocError, Global};
 use std::collections::BTreeMap;
 use std::marker::Model;
@@ -23,7 +24,7 @@ use std::marker::Model;
 /// stays); the tickets are this profile.
 #[derive(Drop)]
 pub struct PendingOpens<K: Drop> {
-    opens: BTreeMap<u64, Pending<K>>,
+    opens: BTreeMap<u64, PendingOpen<K>>,
     pins: Counts,
 }
 
@@ -67,7 +68,7 @@ impl<K: Drop> PendingOpens<K> {
     }
 
     /// The pending open of a ticket, and `None` exactly where there is none. Takes no memory.
-    pub fn get(&self, ticket: u64) -> Option<&Pending<K>>
+    pub fn get(&self, ticket: u64) -> Option<&PendingOpen<K>>
         ensures { option_copied result ≡ find (λ x. x.ticket == ticket) self.now }
     {
         self.opens.get(&ticket)
@@ -82,11 +83,20 @@ impl<K: Drop> PendingOpens<K> {
         self.pins.get(object) > 0
     }
 
+    /// How many opens are pending at an object. Takes no memory.
+    ///
+    /// Source: Windows Internals, Object Manager (object retention: what is referred to stays).
+    pub fn pins_of(&self, pinned: ObjId) -> usize
+        ensures { result ≡ pins_of self.now pinned }
+    {
+        self.pins.get(pinned)
+    }
+
     /// An open more is pending, and pins its object. Its ticket must be above those of all that are
     /// pending, and at most 2^64 - 2. Where memory runs out the open is dropped and nothing has changed.
     ///
     /// Source: the tickets are this profile.
-    pub fn insert(&mut self, pending: Pending<K>) -> Result<(), AllocError>
+    pub fn insert(&mut self, pending: PendingOpen<K>) -> Result<(), AllocError>
         requires newest { All (λ x. x.ticket < pending.ticket) self.old }
         requires drawn { pending.ticket ≤ greatest_number }
         ensures last { OnOk result (self.new ≡ self.old ++ pending ∷ []) }
@@ -103,7 +113,7 @@ impl<K: Drop> PendingOpens<K> {
 
     /// The open of a ticket is pending no longer, and is given; `None` where there is none, and then
     /// nothing changes. Takes no memory.
-    pub fn take(&mut self, ticket: u64) -> Option<Pending<K>>
+    pub fn take(&mut self, ticket: u64) -> Option<PendingOpen<K>>
         ensures there { result ≡ find (λ x. x.ticket == ticket) self.old }
         ensures others { self.new ≡ filter (λ x. not (x.ticket == ticket)) self.old }
     {

@@ -14,7 +14,7 @@ ghost use Rattle.ob_processes.specs.ByOrder.{OrdersRise};
 ghost use Rattle.ob_processes.specs.Handed.{handed_on};
 ghost use Rattle.ob_processes.specs.Running.{with_map};
 
-use crate::ending::Ending;
+use crate::ending::EndingProcess;
 use crate::live::Live;
 use ob_base::{Fault, Handle, ObjId, Proc};
 use ob_devmap::{Maps, View};
@@ -109,7 +109,7 @@ impl<H: HandleTable> Processes<H> {
     /// handles lead to, times the logarithm of all.
     ///
     /// Source: Windows Internals, Processes (what the end of a process closes).
-    pub fn end(&mut self, process: Proc) -> Option<Ending<H>>
+    pub fn end(&mut self, process: Proc) -> Option<EndingProcess<H>>
         ensures others { self.new.processes
             ≡ filter (λ x. not (x.number == process)) self.old.processes }
         ensures handles { self.new.handles

@@ -1,4 +1,4 @@
--- What the copy that readers see will be, once it has made the steps that it was asked for, and the changes that are left.
+-- The copy that readers see, after the steps that it was asked for and the changes that are left.
 --
 -- Source: this profile.
 use Rattle.std.specs.Prelude.{List, [], ◌∷◌, ◌++◌, map}
@@ -15,6 +15,6 @@ use Rattle.ob_published.specs.Shown.{after_steps}
 abbrev pub rows_ahead : Shown → List Op → List RowChange → List Row
 rows_ahead shown pending left = changed_by (after_steps shown pending).rows left
 
--- all that it is asked for in the end: the changes that are left, and what they lead to
+-- all steps of the copy: those asked for, the changes that are left, and the number that they lead to
 abbrev pub asked : List Op → List RowChange → Reach → List Op
 asked pending left reach = (pending ++ map Change left) ++ Reached reach ∷ []

@@ -1,4 +1,4 @@
--- The rule of the book, and what its steps tell.
+-- The rule of the book, and its steps.
 --
 -- Source: this profile.
 use Rattle.std.specs.Prelude.{ℕ, ◌≡◌, ◌==◌, true, List, [], ◌∷◌, ◌++◌, length, MatchBool}

@@ -1,4 +1,4 @@
--- What a namespace publishes and shows.
+-- The publications of a namespace, recorded and shown.
 --
 -- Source: this profile.
 use Rattle.std.specs.Prelude.{◌≡◌, ◌<◌, Bool, true, false, List, [], length}
@@ -17,7 +17,7 @@ pub record Shows : Type 0 where
   pub published : List Publication
   pub shown : List Publication
 
--- What holds between two calls: the copy that readers see is one of the rule; with the steps that it was asked for, and
+-- The invariant between two calls: the copy that readers see is one of the rule; with the steps that it was asked for, and
 -- the changes that are left, it has the rows of all that is recorded; where it is behind, fewer publications are shown
 -- than are recorded, and where it isn't, nothing is pending and all is shown.
 pub record IsShowing (book : Book) (opening : List Row) (leads : List Publication → Type 0) (start last : List Publication) (left : List RowChange) (behind : Bool) (shown : Shown) (pending : List Op) : Type 0 where

@@ -1,4 +1,4 @@
--- The copy that viewers read: how it follows the publications, and what holds of it when readers see it.
+-- The copy that viewers read: how it follows the publications, and its invariant when readers see it.
 --
 -- Source: this profile.
 use Rattle.std.specs.Prelude.{ℕ, ◌≡◌, List, fold, length}

@@ -28,7 +28,7 @@ impl Rule<Publication, u64> for Law {
     ghost moves = { λ ask before after answer. Unit {0} };
 }
 
-/// What a step of the book trades: nothing.
+/// A step of the book trades nothing.
 pub struct Nothing;
 
 impl Gain<Publication, u64> for Nothing {

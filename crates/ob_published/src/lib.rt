@@ -1,8 +1,9 @@
-//! What a namespace publishes to viewers: a history of publications that only grows, and a copy of the rows after the
+//! The publications of a namespace to viewers: a history that only grows, and a copy of the rows after the
 //! latest of them, which viewers read without a lock.
 #![tactic(auto)]
 
 mod book;
+mod leads;
 mod publication;
 mod published;
 mod rule;
@@ -10,6 +11,7 @@ mod showing;
 mod shown;
 
 pub use book::{Add, Book, Law, Naming, Nothing, Opened};
+pub use leads::publications_lead_through_runs;
 pub use publication::{Publication, publications_follow_one_another};
 pub use published::Published;
 pub use rule::{Of, Sees};

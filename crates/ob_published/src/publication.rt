@@ -5,7 +5,7 @@ ghost use Rattle.ob_published.specs.Publications.{PublicationsFollow, EntriesFol
 use ob_rows::RowChange;
 use std::collections::VecDeque;
 
-/// What one publication adds to those before it. (this profile)
+/// The entries of the journal since the publication before, and their changes of the rows. (this profile)
 #[derive(Debug, Drop)]
 pub struct Publication {
     /// How many entries of the journal were made since the last publication.

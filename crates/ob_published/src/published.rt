@@ -1,4 +1,4 @@
-//! What is known of the history of publications.
+//! Knowledge of the history of publications.
 
 ghost use Rattle.std.specs.Prelude.{◌≡◌, ◌++◌, ◌∷◌, ◌⊎◌, [], length, nat_le, IsTrue, MatchBool};
 ghost use mathlib.Core.List.{IsPrefix};
@@ -37,7 +37,7 @@ impl<J: Naming> Model for Published<J> {
 }
 
 impl<J: Naming> Published<J> {
-    // What is known of a book in which no publication stands.
+    // Knowledge of a book without a publication.
     pub(crate) fn start(seen: Seen<Publication, u64, Law>) -> Published<J>
         requires book { seen.book ≡ J.book }
         requires empty { seen.log ≡ [] }
@@ -52,7 +52,7 @@ impl<J: Naming> Published<J> {
         }
     }
 
-    /// What is known by the copy that viewers read.
+    /// The publications that the copy knows which viewers read.
     pub fn of_shown(shown: &Shown) -> Published<J>
         requires shown { IsShown J.book J.opening J.leads shown.now }
         ensures { result ≡ shown.now.seen.log }
@@ -69,7 +69,7 @@ impl<J: Naming> Published<J> {
     pub fn number(&self) -> u64
         ensures number { result ≡ total_entries self.now }
 
-        // What holds of all publications that are made.
+        // An invariant of all publications.
         ensures leads { J.leads self.now }
     {
         self.entries
@@ -119,13 +119,13 @@ impl<J: Naming> Published<J> {
         }
     }
 
-    /// What viewers are to read, once the copy has the changes of these publications.
+    /// The last step of the copy, after the changes of these publications.
     pub(crate) fn reach(&self) -> Reach
         ensures publications { result.publications ≡ length self.now }
         ensures entries { result.entries ≡ total_entries self.now }
         ensures seen { (result.seen.book ≡ J.book) × (result.seen.log ≡ self.now) }
 
-        // What holds of all publications that are made.
+        // An invariant of all publications.
         ensures leads { J.leads self.now }
     {
         Reach {

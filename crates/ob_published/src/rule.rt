@@ -16,7 +16,7 @@ impl<J: Naming> Protocol<Shown, ()> for Of<J> {
     ghost first = { tt };
 }
 
-/// What a look at the copy tells, and a change of it: the rule of the copy.
+/// A look at the copy, and a change of it, keep the rule of the copy.
 pub struct Sees<J>(PhantomData<J>);
 
 impl<J: Naming> Outcome<Shown, ()> for Sees<J> {

@@ -1,11 +1,10 @@
 //! The writer's half: publications are recorded, and then shown to viewers.
 
-ghost use Rattle.std.specs.Prelude.{◌≡◌, ◌<◌, ◌^◌, ◌∷◌, ◌++◌, [], IfOk, OnOk, OnErr, MatchBool, MatchResult, drop, length, map};
+ghost use Rattle.std.specs.Prelude.{◌≡◌, ◌<◌, ◌^◌, ◌∷◌, ◌++◌, [], IfOk, IfErr, OnOk, OnErr, MatchBool, MatchResult, drop, length, map};
 ghost use Rattle.ob_published.specs.Publications.{published_rows};
 ghost use Rattle.ob_published.specs.Shown.{IsShown, after_steps};
 ghost use Rattle.ob_published.specs.Ahead.{asked, rows_ahead};
 ghost use Rattle.ob_published.specs.declared.shown.Op.TheVariants.{Change};
-ghost use Rattle.ob_rows.specs.Rows.{AreByStamp};
 
 use crate::book::{Book, Naming, Opened};
 use crate::rule::{Of, Sees};
@@ -13,14 +12,13 @@ use crate::{Op, Publication, Published, Reach, Shown};
 use core::mem::replace_with;
 use left_right::reader::Reader;
 use left_right::writer::Writer;
-use ob_model::Row;
 use ob_rows::{RowChange, RowTable};
 use std::alloc::{AllocError, Global};
 use std::collections::VecDeque;
 use std::marker::Model;
 use std::sync::Wait;
 
-/// What a namespace publishes, and the copy that viewers read of it. A contract sees a `Showing` as the publications that
+/// The publications of a namespace, and the copy that viewers read. A contract sees a `Showing` as the publications that
 /// are recorded, and those of them that are shown: all, or all but the last.
 ///
 /// A publication is recorded in one step, and stays recorded. It is shown in another, which may find no memory: then
@@ -66,27 +64,26 @@ impl<J: Naming, R: Wait + Drop> Drop for Showing<J, R> {
 }
 
 impl<J: Naming, R: Wait + Drop> Showing<J, R> {
-    /// What a namespace shows before its first publication: its opening rows, to so many viewers. They are copied
-    /// twice.
+    /// Shows the opening rows of a namespace to so many viewers, with no publication: both tables have these rows.
     ///
     /// The only error is out of memory.
     pub fn open(
         alloc: Global,
         rt: R,
         opened: Opened,
-        opening: &[Row],
+        copies: (RowTable, RowTable),
         viewers: usize,
     ) -> Result<Showing<J, R>, AllocError>
         requires book { opened.seen.book ≡ J.book }
-        requires opening { opening.now ≡ J.opening }
-        requires rising { AreByStamp opening.now }
+        requires copies { (copies.0 ≡ J.opening) × (copies.1 ≡ J.opening) }
         requires leads { J.leads [] }
         requires viewers { (0 < viewers) × (viewers < 2 ^ 32) }
         ensures { IfOk result (λ s. (s.published ≡ []) × (s.shown ≡ [])) }
     {
         let (book, start) = opened.named::<J>();
-        let first = shown_at(&start, RowTable::from_rows(alloc, opening)?);
-        let second = like(&first, RowTable::from_rows(alloc, opening)?);
+        let (first, second) = copies;
+        let first = shown_at(&start, first);
+        let second = like(&first, second);
         let writer = Writer::new(alloc, first, second, viewers)?;
         Ok(Showing {
             last: start.again(),
@@ -121,8 +118,8 @@ impl<J: Naming, R: Wait + Drop> Showing<J, R> {
         self.last.again()
     }
 
-    /// What a viewer begins with: a reader of the copy, and that it knows of no publication. Where as many readers as
-    /// were asked for are in use it is an error, and where memory runs out.
+    /// The seat of a viewer: a reader of the copy, with knowledge of no publication. It fails if as many readers as
+    /// were asked for are in use, and if memory runs out.
     pub fn seat(&self) -> Result<(Reader<Shown, (), Of<J>>, Published<J>), AllocError>
         ensures { IfOk result (λ seat. seat.1 ≡ []) }
     {
@@ -131,16 +128,17 @@ impl<J: Naming, R: Wait + Drop> Showing<J, R> {
 
     /// Records a publication after all others. Nothing is shown yet. It takes no memory.
     ///
-    /// It is an error where the one before is still to be shown, and where numbers have run out: there are 2^62
-    /// publications, or 2^64 entries. Then nothing has changed.
-    pub fn record(&mut self, publication: Publication) -> Result<(), AllocError>
+    /// It fails if the one before is still to be shown, and if numbers have run out: there are 2^62 publications, or
+    /// 2^64 entries. Then it returns the publication, and nothing has changed.
+    pub fn record(&mut self, publication: Publication) -> Result<(), Publication>
         requires leads { J.leads (self.old.published ++ publication ∷ []) }
         ensures recorded { OnOk result (self.new.published ≡ self.old.published ++ publication ∷ []) }
         ensures unshown { self.new.shown ≡ self.old.shown }
         ensures unchanged { OnErr result (self.new ≡ self.old) }
+        ensures back { IfErr result (λ back. back ≡ publication) }
     {
         if self.behind || !self.last.add(&self.book, &publication) {
-            return Err(AllocError);
+            return Err(publication);
         }
         self.behind = true;
         self.left = publication.changes;

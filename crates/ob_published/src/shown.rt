@@ -10,7 +10,7 @@ use logbook::Seen;
 use ob_rows::{RowChange, RowTable};
 use std::alloc::AllocError;
 
-/// What viewers read: rows, and which publications they are the rows of. (this profile)
+/// The copy that viewers read: rows, and the publications after which they are the rows. (this profile)
 #[derive(Drop)]
 pub struct Shown {
     /// The rows.

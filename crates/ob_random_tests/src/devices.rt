@@ -5,7 +5,9 @@ use crate::dice::Dice;
 use crate::draw::{any_handle, any_live};
 use crate::game::{Game, agreed_by_tables};
 use crate::turn::Turn;
-use ob_flat_model::{Ask, Deed, EXCLUSIVE, INHERIT, Kind, Model, Name, PERMANENT, Path};
+use ob_flat_model::{
+    Ask, Deed, EXCLUSIVE, FlatKind, FlatName, FlatPath, INHERIT, Model, PERMANENT,
+};
 use std::test::Fail;
 
 // The flags of opens, one of which is unlawful.
@@ -22,10 +24,10 @@ const NAMES: [(&[u8], u8); 6] = [
     (b"D", b't'),
 ];
 
-fn named((way, letter): (&'static [u8], u8)) -> Name {
+fn named((way, letter): (&'static [u8], u8)) -> FlatName {
     let (root, last) = (None, Some(letter));
-    let path = Path { way, last };
-    Name { root, path }
+    let path = FlatPath { way, last };
+    FlatName { root, path }
 }
 
 // An open, now and then of a device, which no file is.
@@ -33,7 +35,7 @@ fn any_open(dice: &mut Dice) -> Ask {
     let name = named(NAMES[dice.below(6) as usize]);
     let attrs = FLAGS[dice.below(8) as usize];
     let want = match dice.below(8) {
-        0 => Some(Kind::Device),
+        0 => Some(FlatKind::Device),
         _ => None,
     };
     Ask::Open { want, name, attrs }
@@ -44,7 +46,7 @@ fn any_open(dice: &mut Dice) -> Ask {
 /// is.
 pub(crate) fn turn(dice: &mut Dice, model: &Model, done: u32) -> Turn {
     if done == 0 {
-        let (of, name, attrs) = (Kind::Device, named(NAMES[0]), PERMANENT);
+        let (of, name, attrs) = (FlatKind::Device, named(NAMES[0]), PERMANENT);
         let (target, shadow, name) = (name.path, None, Some(name));
         return Turn::Start(
             1,

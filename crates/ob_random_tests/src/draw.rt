@@ -2,8 +2,8 @@
 
 use crate::dice::Dice;
 use ob_flat_model::{
-    Ask, CASE_INSENSITIVE, Deed, EXCLUSIVE, INHERIT, Kind, LARGEST_ROOM, Model, Name, OPENIF,
-    OPENLINK, PERMANENT, Part, Path,
+    Ask, CASE_INSENSITIVE, Deed, EXCLUSIVE, FlatKind, FlatName, FlatPart, FlatPath, INHERIT,
+    LARGEST_ROOM, Model, OPENIF, OPENLINK, PERMANENT,
 };
 
 // The number of the last object of those that every game begins with.
@@ -63,7 +63,7 @@ const LETTERS: [u8; 12] = *b"AAABBCaab23?";
 // The directory `\3`, and 30, 31 or 32 times the link in it that leads to it.
 const DEEPEST: &[u8] = b"333333333333333333333333333333333";
 
-fn any_path(dice: &mut Dice) -> Path {
+fn any_path(dice: &mut Dice) -> FlatPath {
     let way: &'static [u8] = match dice.below(32) {
         0..=6 => b"",
         7..=8 => b"G",
@@ -85,19 +85,19 @@ fn any_path(dice: &mut Dice) -> Path {
         0 => None,
         _ => Some(letter),
     };
-    Path { way, last }
+    FlatPath { way, last }
 }
 
 // A name, now and then relative to a handle of a process, mostly one to a directory.
-fn any_name(dice: &mut Dice, model: &Model, process: u32) -> Name {
+fn any_name(dice: &mut Dice, model: &Model, process: u32) -> FlatName {
     let path = any_path(dice);
     let want = match dice.below(24) {
-        0..=2 => Some(Kind::Directory),
+        0..=2 => Some(FlatKind::Directory),
         3 => None,
-        _ => return Name { root: None, path },
+        _ => return FlatName { root: None, path },
     };
     let root = Some(any_value(dice, model, process, want));
-    Name { root, path }
+    FlatName { root, path }
 }
 
 fn any_flags(dice: &mut Dice, flags: &[u32; 20]) -> u32 {
@@ -108,17 +108,17 @@ fn any_flags(dice: &mut Dice, flags: &[u32; 20]) -> u32 {
 }
 
 // A type of plain objects, mostly the one that goes with the last component of a name.
-fn any_plain(dice: &mut Dice, last: Option<u8>) -> Kind {
+fn any_plain(dice: &mut Dice, last: Option<u8>) -> FlatKind {
     let of = match dice.below(3) {
-        0 => Kind::Event,
-        1 => Kind::Mutant,
-        _ => Kind::Section,
+        0 => FlatKind::Event,
+        1 => FlatKind::Mutant,
+        _ => FlatKind::Section,
     };
     match (dice.below(4), last) {
         (0, _) => of,
-        (_, Some(b'B')) => Kind::Mutant,
-        (_, Some(b'C' | b'a')) => Kind::Section,
-        _ => Kind::Event,
+        (_, Some(b'B')) => FlatKind::Mutant,
+        (_, Some(b'C' | b'a')) => FlatKind::Section,
+        _ => FlatKind::Event,
     }
 }
 
@@ -136,7 +136,7 @@ pub(crate) fn any_live(dice: &mut Dice, model: &Model) -> Option<u32> {
 }
 
 // The value of a handle, mostly one of a process's own to what is wanted. Its low two bits don't count.
-fn any_value(dice: &mut Dice, model: &Model, process: u32, want: Option<Kind>) -> u32 {
+fn any_value(dice: &mut Dice, model: &Model, process: u32, want: Option<FlatKind>) -> u32 {
     let (place, any) = any_handle(dice, model);
     let own = model.value_from(place, process, want).unwrap_or(any);
     match dice.below(24) {
@@ -161,7 +161,7 @@ pub(crate) fn any_process(dice: &mut Dice, model: &Model) -> u32 {
 // The shadow of a directory that is made: every other one has one, mostly a directory to which the process has a handle.
 fn any_shadow(dice: &mut Dice, model: &Model, process: u32) -> Option<u32> {
     let want = match dice.below(16) {
-        0..=6 => Some(Kind::Directory),
+        0..=6 => Some(FlatKind::Directory),
         7 => None,
         _ => return None,
     };
@@ -172,11 +172,11 @@ fn any_make(dice: &mut Dice, model: &Model, process: u32) -> Ask {
     let name = any_name(dice, model, process);
     let (of, target) = match dice.below(8) {
         0..=3 => (any_plain(dice, name.path.last), name.path),
-        4..=5 => (Kind::Directory, name.path),
-        _ => (Kind::Link, any_path(dice)),
+        4..=5 => (FlatKind::Directory, name.path),
+        _ => (FlatKind::Link, any_path(dice)),
     };
     let shadow = match of {
-        Kind::Directory => any_shadow(dice, model, process),
+        FlatKind::Directory => any_shadow(dice, model, process),
         _ => None,
     };
     Ask::Make {
@@ -197,8 +197,8 @@ fn any_open(dice: &mut Dice, model: &Model, process: u32) -> Ask {
         want: match dice.below(12) {
             0..=3 => None,
             4..=7 => Some(any_plain(dice, name.path.last)),
-            8..=9 => Some(Kind::Directory),
-            _ => Some(Kind::Link),
+            8..=9 => Some(FlatKind::Directory),
+            _ => Some(FlatKind::Link),
         },
         name,
         attrs: any_flags(dice, &OPEN_FLAGS),
@@ -225,8 +225,8 @@ fn any_turn(dice: &mut Dice, model: &Model, process: u32) -> Ask {
 
 // A query of a handle, and of what type its object mostly is. A page is one of few entries, or now and then one of
 // too much room.
-fn any_query(dice: &mut Dice) -> (Option<Kind>, Deed) {
-    let part = Part {
+fn any_query(dice: &mut Dice) -> (Option<FlatKind>, Deed) {
+    let part = FlatPart {
         room: match dice.below(60) as u32 {
             59 => LARGEST_ROOM.wrapping_add(1),
             room => room,
@@ -235,9 +235,9 @@ fn any_query(dice: &mut Dice) -> (Option<Kind>, Deed) {
         restart: dice.below(4) == 0,
     };
     match dice.below(16) {
-        0..=8 => (Some(Kind::Directory), Deed::List(part)),
+        0..=8 => (Some(FlatKind::Directory), Deed::List(part)),
         9 => (None, Deed::List(part)),
-        10..=11 => (Some(Kind::Link), Deed::Target),
+        10..=11 => (Some(FlatKind::Link), Deed::Target),
         12 => (None, Deed::Target),
         _ => (None, Deed::Name),
     }
@@ -257,7 +257,7 @@ pub(crate) fn next(dice: &mut Dice, model: &Model, process: u32) -> Ask {
             (None, Deed::Duplicate { to, inherit })
         }
         43..=46 => return any_turn(dice, model, process),
-        47..=49 => (Some(Kind::Directory), Deed::Map),
+        47..=49 => (Some(FlatKind::Directory), Deed::Map),
         50..=62 => any_query(dice),
         _ if many > 11 || (many > 3 && dice.below(2) == 0) => return Ask::Exit,
         _ => return Ask::Begin { inherit },

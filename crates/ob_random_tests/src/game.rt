@@ -10,7 +10,7 @@ use either::Either;
 use ob_base::{Fault, Handle, Proc};
 use ob_core::{Bytes, Cache, Command, Core, HandleTable, OpenTable, Place, SlabTable};
 use ob_device::DeviceKind;
-use ob_flat_model::{Ask, Deed, Kind, Model, Name, Path, text};
+use ob_flat_model::{Ask, Deed, FlatKind, FlatName, FlatPath, Model, text};
 use ob_plain::PlainKind;
 use ob_runner::{Begun, Waits, begin_open, drop_open, end_open, give_all_up};
 use ob_standard::{Standard, StandardKind};
@@ -22,19 +22,19 @@ use std::num::NonZeroUsize;
 /// A set of types over which games are played, and whose calls are counted.
 pub(crate) trait Played: TypeSet {
     /// The set's kind of objects of a kind; any, where it hasn't that.
-    fn kind(of: Kind) -> Self::Kind;
+    fn kind(of: FlatKind) -> Self::Kind;
 
     /// How often the set opened, closed and deleted an object.
     fn calls(&self) -> (u64, u64, u64);
 }
 
 impl Played for Standard {
-    fn kind(of: Kind) -> StandardKind {
+    fn kind(of: FlatKind) -> StandardKind {
         match of {
-            Kind::Mutant => Either::Left(PlainKind::Mutant),
-            Kind::Section => Either::Left(PlainKind::Section),
-            Kind::Device => Either::Right(Either::Left(DeviceKind::Device)),
-            Kind::File => Either::Right(Either::Left(DeviceKind::File)),
+            FlatKind::Mutant => Either::Left(PlainKind::Mutant),
+            FlatKind::Section => Either::Left(PlainKind::Section),
+            FlatKind::Device => Either::Right(Either::Left(DeviceKind::Device)),
+            FlatKind::File => Either::Right(Either::Left(DeviceKind::File)),
             _ => Either::Left(PlainKind::Event),
         }
     }
@@ -64,7 +64,7 @@ impl Game {
 }
 
 // The place of what is made.
-fn place_of(alloc: Global, name: Option<Name>) -> Result<Place, AllocError> {
+fn place_of(alloc: Global, name: Option<FlatName>) -> Result<Place, AllocError> {
     match name {
         Some(name) => Ok(Place::At {
             root: handle_of(name),
@@ -78,7 +78,7 @@ fn place_of(alloc: Global, name: Option<Name>) -> Result<Place, AllocError> {
 fn make_directory<K>(
     alloc: Global,
     shadow: Option<u32>,
-    name: Option<Name>,
+    name: Option<FlatName>,
     attrs: u32,
 ) -> Result<Command<K>, AllocError> {
     let place = place_of(alloc, name)?;
@@ -95,12 +95,12 @@ fn make_directory<K>(
 // The create of a link.
 fn make_link<K>(
     alloc: Global,
-    path: Path,
-    name: Option<Name>,
+    path: FlatPath,
+    name: Option<FlatName>,
     attrs: u32,
 ) -> Result<Command<K>, AllocError> {
     let root = None;
-    let target = Bytes::new(text(alloc, Name { root, path })?);
+    let target = Bytes::new(text(alloc, FlatName { root, path })?);
     Ok(Command::CreateLink {
         place: place_of(alloc, name)?,
         attrs,
@@ -111,12 +111,12 @@ fn make_link<K>(
 // The create of an object of a set. A device has one file.
 fn make_object<S: Played>(
     alloc: Global,
-    of: Kind,
-    name: Option<Name>,
+    of: FlatKind,
+    name: Option<FlatName>,
     attrs: u32,
 ) -> Result<Command<S::Kind>, AllocError> {
     let args: &'static [u8] = match of {
-        Kind::Device => b"com1",
+        FlatKind::Device => b"com1",
         _ => b"",
     };
     let args = Bytes::from_slice(alloc, args)?;
@@ -129,14 +129,14 @@ fn make_object<S: Played>(
 }
 
 fn open<S: Played>(
-    want: Option<Kind>,
+    want: Option<FlatKind>,
     root: Option<Handle>,
     name: Bytes,
     attrs: u32,
 ) -> Command<S::Kind> {
     let want = match want {
-        Some(Kind::Directory) => return Command::OpenDirectory { root, name, attrs },
-        Some(Kind::Link) => return Command::OpenLink { root, name, attrs },
+        Some(FlatKind::Directory) => return Command::OpenDirectory { root, name, attrs },
+        Some(FlatKind::Link) => return Command::OpenLink { root, name, attrs },
         Some(of) => Some(S::kind(of)),
         None => None,
     };
@@ -173,7 +173,7 @@ fn on_handle<K>(handle: Handle, deed: Deed, context: u64) -> Command<K> {
 }
 
 // The handle that a name is relative to.
-fn handle_of(name: Name) -> Option<Handle> {
+fn handle_of(name: FlatName) -> Option<Handle> {
     Some(Handle(name.root?))
 }
 
@@ -190,8 +190,8 @@ fn command<S: Played>(
             name,
             attrs,
         } => match of {
-            Kind::Directory => make_directory(alloc, shadow, name, attrs),
-            Kind::Link => make_link(alloc, target, name, attrs),
+            FlatKind::Directory => make_directory(alloc, shadow, name, attrs),
+            FlatKind::Link => make_link(alloc, target, name, attrs),
             _ => make_object::<S>(alloc, of, name, attrs),
         },
         Ask::Open { want, name, attrs } => {

@@ -4,7 +4,7 @@ use crate::dice::Dice;
 use crate::draw::{any_process, next};
 use crate::game::{Game, agreed_by_tables};
 use crate::turn::Turn;
-use ob_flat_model::{Ask, INHERIT, Kind, Model, Name, PERMANENT, Path};
+use ob_flat_model::{Ask, FlatKind, FlatName, FlatPath, INHERIT, Model, PERMANENT};
 use std::env;
 use std::test::Fail;
 
@@ -14,22 +14,22 @@ const GAME: u32 = 2_500;
 /// The next turn, where so many turns are done. A game begins with what the first process makes: the directories `\2`
 /// and `\3`, and the link `\3\3` to the directory in which it is.
 pub(crate) fn turn(dice: &mut Dice, model: &Model, done: u32) -> Turn {
-    let (of, way, letter): (Kind, &'static [u8], u8) = match done {
-        0 => (Kind::Directory, b"", b'2'),
-        1 => (Kind::Directory, b"", b'3'),
-        2 => (Kind::Link, b"3", b'3'),
+    let (of, way, letter): (FlatKind, &'static [u8], u8) = match done {
+        0 => (FlatKind::Directory, b"", b'2'),
+        1 => (FlatKind::Directory, b"", b'3'),
+        2 => (FlatKind::Link, b"3", b'3'),
         _ => {
             let process = any_process(dice, model);
             return Turn::Start(process, next(dice, model, process));
         }
     };
     let (root, last) = (None, Some(letter));
-    let path = Path { way, last };
+    let path = FlatPath { way, last };
     let make = Ask::Make {
         of,
-        target: Path { way, last: None },
+        target: FlatPath { way, last: None },
         shadow: None,
-        name: Some(Name { root, path }),
+        name: Some(FlatName { root, path }),
         attrs: PERMANENT | INHERIT,
     };
     Turn::Start(1, make)

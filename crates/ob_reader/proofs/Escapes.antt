@@ -2,7 +2,7 @@
 use Rattle.std.proofs.Common.{◌≡◌, ℕ, ◌+◌, ◌*◌, ◌/◌, ◌%◌, ◌^◌, ◌<◌, Bool, true, false, nat_lt, List, [], ◌∷◌, ◌++◌, Some, refl, ap, ◌∙◌, arith}
 use Rattle.std.proofs.lemmas.Bool.Decides.{nat_tests}
 use Rattle.json.proofs.Printed.Utf8.{are_ascii}
-use Rattle.ob_journal.specs.Lines.{is_itself, hex_digit, escaped, escaped_byte}
+use Rattle.ob_entries.specs.Lines.{is_itself, hex_digit, escaped, escaped_byte}
 use Rattle.ob_reader.specs.Reading.{◌>>=◌, digit_for, byte_for, with_byte, unescaped}
 use Rattle.ob_reader.specs.Laws.{AreBytes}
 use Rattle.ob_reader.proofs.Unescaped.{itself_first, escape_first}

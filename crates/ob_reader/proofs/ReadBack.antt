@@ -25,7 +25,7 @@ use Rattle.ob_plain.specs.declared.plain.PlainKind.TheVariants as plain
 use Rattle.ob_device.specs.declared.device.DeviceKind.TheVariants as device
 use Rattle.ob_key.specs.declared.key.KeyKind.TheVariants as key_kind
 use Rattle.ob_standard.specs.Standard.{StandardKind, standard}
-use Rattle.ob_journal.specs.Lines.{number_value, text_value, value_or_null, items_of, root_of, name_of, parse_word, kind_value, command_step, step_value, listed_value, reply_value, answer_value, header_value, entry_value}
+use Rattle.ob_entries.specs.Lines.{number_value, text_value, value_or_null, items_of, root_of, name_of, parse_word, kind_value, command_step, step_value, listed_value, reply_value, answer_value, header_value, entry_value}
 use Rattle.ob_reader.specs.declared.header.Header.{Header}
 use Rattle.ob_reader.specs.declared.header.Header.TheVariants.{Segment}
 use Rattle.ob_reader.specs.declared.line.Line.{Line}

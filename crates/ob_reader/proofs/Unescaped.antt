@@ -1,7 +1,7 @@
 -- Texts, byte by byte.
 use Rattle.std.proofs.Common.{◌≡◌, ℕ, true, false, ◌==◌, List, [], ◌∷◌, ◌++◌, Option, Some, None, option_map, refl, sym, ap, ◌∙◌, arith, append_assoc, append-nil}
 use Rattle.std.proofs.lemmas.Bool.Decides.{nat_tests}
-use Rattle.ob_journal.specs.Lines.{is_itself}
+use Rattle.ob_entries.specs.Lines.{is_itself}
 use Rattle.ob_reader.specs.Reading.{◌>>=◌, byte_for, with_byte, unescaped}
 
 -- nothing stands before a text

@@ -18,7 +18,7 @@ use Rattle.ob_model.specs.declared.reply.Given.TheVariants.{Nothing, Handle, Tex
 use Rattle.ob_model.specs.declared.reply.ParseRun.TheVariants.{Unrun}
 use Rattle.ob_model.specs.Run.{Entry}
 use Rattle.ob_standard.specs.Standard.{StandardKind, standard}
-use Rattle.ob_journal.specs.Lines.{header_line, entry_line}
+use Rattle.ob_entries.specs.Lines.{header_line, entry_line}
 use Rattle.ob_reader.specs.declared.header.Header.TheVariants.{Segment}
 use Rattle.ob_reader.specs.declared.line.SegmentLine.TheVariants as segment_line
 use Rattle.ob_reader.specs.Reading.{only_if, type_name_for, is_page_status, is_in_version_1, line_for, header_for, line_about, segment_line_for}

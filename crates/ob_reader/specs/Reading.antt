@@ -31,10 +31,10 @@ use Rattle.ob_plain.specs.declared.plain.PlainKind.TheVariants as plain
 use Rattle.ob_device.specs.declared.device.DeviceKind.TheVariants as device
 use Rattle.ob_key.specs.declared.key.KeyKind.TheVariants as key_kind
 use Rattle.ob_standard.specs.Standard.{StandardKind, standard}
-use Rattle.ob_journal.specs.declared.words.Operation.{Operation}
-use Rattle.ob_journal.specs.declared.words.Operation.TheVariants as operation
-use Rattle.ob_journal.specs.Lines.{is_itself}
-use Rattle.ob_journal.specs.Words.{operation_for, parse_for}
+use Rattle.ob_entries.specs.declared.words.Operation.{Operation}
+use Rattle.ob_entries.specs.declared.words.Operation.TheVariants as operation
+use Rattle.ob_entries.specs.Lines.{is_itself}
+use Rattle.ob_entries.specs.Words.{operation_for, parse_for}
 use Rattle.ob_reader.specs.declared.header.Header.{Header}
 use Rattle.ob_reader.specs.declared.header.Header.TheVariants.{Whole, Segment}
 use Rattle.ob_reader.specs.declared.line.Line.{Line}

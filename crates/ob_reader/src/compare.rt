@@ -4,7 +4,8 @@ ghost use Rattle.std.specs.Prelude.{◌≡◌, ◌↔◌, IsTrue};
 ghost use Rattle.ob_reader.specs.Reading.{gift_of, said_of};
 
 use crate::said::{Gift, Numbers, Said};
-use ob_model::{Answer, Bytes, Entries, Given, Handles, Listed};
+use ob_entries::{is_same_page, is_same_text};
+use ob_model::{Answer, Given, Handles};
 
 /// Whether a line says this of an answer: the number of its status, and all that is given, each entry and each value in its
 /// place. Takes no memory. (this profile)
@@ -57,34 +58,4 @@ fn has_numbers(numbers: &Numbers, handles: &Handles) -> bool
         }
     }
     true
-}
-
-// Whether these are the same entries of a page.
-fn is_same_page(a: &Entries, b: &Entries) -> bool
-    ensures { IsTrue result ↔ a.now ≡ b.now }
-{
-    let (these, those) = (a.as_slice(), b.as_slice());
-    if these.len() != those.len() {
-        return false;
-    }
-    for (i, listed) in these.iter().enumerate() {
-        if !is_same_listed(listed, &those[i]) {
-            return false;
-        }
-    }
-    true
-}
-
-// Whether these are one entry of a page.
-fn is_same_listed(a: &Listed, b: &Listed) -> bool
-    ensures { IsTrue result ↔ a.now ≡ b.now }
-{
-    is_same_text(&a.name, &b.name) && a.type_name.as_str() == b.type_name.as_str()
-}
-
-// Whether these are the same bytes.
-fn is_same_text(a: &Bytes, b: &Bytes) -> bool
-    ensures { IsTrue result ↔ a.now ≡ b.now }
-{
-    a.as_slice() == b.as_slice()
 }

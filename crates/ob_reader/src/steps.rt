@@ -9,7 +9,7 @@ use crate::members::{bool_at, has_members, text_at, u32_at, u32_in, u64_at};
 use crate::texts::{read_bytes, read_bytes_at};
 use crate::words::kind_of;
 use ob_base::{Handle, Proc};
-use ob_journal::{Operation, parse_of_word};
+use ob_entries::{Operation, parse_of_word};
 use ob_model::{Command, Event, ParseRun, Place};
 use ob_standard::StandardKind;
 use serde_json::Value;

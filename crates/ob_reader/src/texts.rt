@@ -2,7 +2,7 @@
 
 ghost use Rattle.std.specs.Prelude.{◌≡◌, ◌<◌, ◌∷◌, [], length, Some, None, option_map, IfOk, IfSome, IfNone};
 ghost use Rattle.serde_json.specs.View.{view};
-ghost use Rattle.ob_journal.specs.Lines.{is_itself};
+ghost use Rattle.ob_entries.specs.Lines.{is_itself};
 ghost use Rattle.ob_reader.specs.Reading.{digit_for, byte_for, with_byte, unescaped, bytes_in, bytes_at};
 
 use crate::members::text_at;

@@ -14,7 +14,7 @@ abbrev Numbers : Type 0 → Type 0 → Type 0
 Numbers S N = IndexMap (SmallVec ℕ) N S
 
 module _ {S N : Type 0} (none : N) where
-  -- for the words of cloned tables the same is kept
+  -- for the variables of cloned tables the same is kept
   pub cloned_tables : (C : ℕ → ℕ → Type 0) (D : (Numbers S N) → (Numbers S N) → Type 0) → ((x y : ℕ) → C x y → x ≡ y) → ((x y : (Numbers S N)) → D x y → number_or none y ≡ number_or none x)
       → (es fs : List (ℕ × (Numbers S N))) → AllZip (λ p q. C p.0 q.0 × D p.1 q.1) es fs → (p : ℕ) (w : List ℕ) → numbers_among none fs p w ≡ numbers_among none es p w
   cloned_tables C D keys tables [] [] a p w = refl

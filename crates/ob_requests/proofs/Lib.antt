@@ -3,4 +3,4 @@ pub mod Tables
 pub mod Written
 pub mod Copies
 pub mod Alike
-pub mod AlikeWords
+pub mod AlikeVariables

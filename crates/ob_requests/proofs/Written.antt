@@ -1,4 +1,4 @@
--- One table of several is written, and what that makes of the words.
+-- One table of several is written, and what that makes of the variables.
 use Rattle.std.proofs.Common.{◌≡◌, ℕ, ◌==◌, Bool, true, false, cond, List, [], ◌∷◌, Option, Some, None, MatchOption, sym, ap, subst, ◌∙◌, refl, eqb-true, arith}
 use Rattle.std.specs.BTreeMap.{is_at}
 use Rattle.std.specs.Map.{lookup, set_value}
@@ -9,11 +9,11 @@ use Rattle.smallvec.specs.SmallVec.{SmallVec}
 use Rattle.std.proofs.lemmas.Bool.{eq-eqb}
 use Rattle.indexmap.specs.IndexMap.{IndexMap}
 use Rattle.ob_model.proofs.Ids.{is_at-id}
-use Rattle.ob_requests.specs.Words.{Words, with_number, with_own, with_number_of, with_process, with_word, with_words, with_context, with_ticket}
-use Rattle.ob_requests.specs.declared.row.Row.{Row}
-use Rattle.ob_requests.specs.declared.row.Write.TheVariants as write
+use Rattle.ob_requests.specs.Variables.{Variables, with_number, with_own, with_number_of, with_process, with_variable, with_variables, with_context, with_ticket}
+use Rattle.ob_requests.specs.declared.variable.Variable.{Variable}
+use Rattle.ob_requests.specs.declared.variable.Write.TheVariants as write
 use Rattle.ob_requests.specs.Rows.{written}
-use Rattle.ob_requests.specs.Tables.{has_word, number_or, numbers_among, table_at}
+use Rattle.ob_requests.specs.Tables.{has_variable, number_or, numbers_among, table_at}
 use Rattle.ob_requests.proofs.Tables.{same_bytes}
 
 -- what is found where one entry was written
@@ -62,39 +62,39 @@ module _ {S N : Type 0} (none : N) (tables : List (ℕ × IndexMap (SmallVec ℕ
   numbers_at : number_or none t ≡ numbers_among none tables p
   numbers_at = λ i w. ap (λ (o : Option (IndexMap (SmallVec ℕ) N S)). option_map_or (λ table. number_or none table w) o none) (sym found) i
 
-  -- one word was set in a table
-  pub word_written : (new : List (ℕ × IndexMap (SmallVec ℕ) N S)) (word : List ℕ) (number : N) → new ≡ set_value (is_at (nat_cmp p)) tables t'
-      → number_or none t' ≡ with_number (number_or none t) word number → numbers_among none new ≡ with_number_of (numbers_among none tables) p word number
-  word_written new word number wrote set =
+  -- one variable was set in a table
+  pub variable_written : (new : List (ℕ × IndexMap (SmallVec ℕ) N S)) (variable : List ℕ) (number : N) → new ≡ set_value (is_at (nat_cmp p)) tables t'
+      → number_or none t' ≡ with_number (number_or none t) variable number → numbers_among none new ≡ with_number_of (numbers_among none tables) p variable number
+  variable_written new variable number wrote set =
       ap (λ es. numbers_among none es) wrote
-      ∙ numbers_written (with_number (numbers_among none tables p) word number) (set ∙ ap (λ (f : List ℕ → N). with_number f word number) numbers_at)
+      ∙ numbers_written (with_number (numbers_among none tables p) variable number) (set ∙ ap (λ (f : List ℕ → N). with_number f variable number) numbers_at)
 
   -- a table was written
   pub table_written : (new : List (ℕ × IndexMap (SmallVec ℕ) N S)) (numbers : List ℕ → N) → new ≡ set_value (is_at (nat_cmp p)) tables t' → number_or none t' ≡ numbers
       → numbers_among none new ≡ with_own (numbers_among none tables) p numbers
   table_written new numbers wrote same = ap (λ es. numbers_among none es) wrote ∙ numbers_written numbers same
 
-  -- what a table that was found keeps for a word
+  -- what a table that was found keeps for a variable
   pub number_at : (w : List ℕ) → number_or none t w ≡ numbers_among none tables p w
   number_at w = ap (λ (f : List ℕ → N). f w) numbers_at
 
   -- the room of all tables stays, where it does in one
-  pub room_kept : (new : List (ℕ × IndexMap (SmallVec ℕ) N S)) → new ≡ set_value (is_at (nat_cmp p)) tables t' → ((w : List ℕ) → has_word t w ≡ true → has_word t' w ≡ true)
-      → (q : ℕ) (w : List ℕ) → MatchOption (table_at tables q) ⊥ (λ table. has_word table w ≡ true) → MatchOption (table_at new q) ⊥ (λ table. has_word table w ≡ true)
+  pub room_kept : (new : List (ℕ × IndexMap (SmallVec ℕ) N S)) → new ≡ set_value (is_at (nat_cmp p)) tables t' → ((w : List ℕ) → has_variable t w ≡ true → has_variable t' w ≡ true)
+      → (q : ℕ) (w : List ℕ) → MatchOption (table_at tables q) ⊥ (λ table. has_variable table w ≡ true) → MatchOption (table_at new q) ⊥ (λ table. has_variable table w ≡ true)
   room_kept new wrote stays q w room =
-      subst (λ (o : Option (IndexMap (SmallVec ℕ) N S)). MatchOption o ⊥ (λ table. has_word table w ≡ true))
+      subst (λ (o : Option (IndexMap (SmallVec ℕ) N S)). MatchOption o ⊥ (λ table. has_variable table w ≡ true))
       (sym (ap (λ es. table_at es q) wrote ∙ found_written p q tables t t' found)) (go (p == q) refl)
     where
-      go : (b : Bool) → (p == q) ≡ b → MatchOption (cond b (Some t') (table_at tables q)) ⊥ (λ table. has_word table w ≡ true)
+      go : (b : Bool) → (p == q) ≡ b → MatchOption (cond b (Some t') (table_at tables q)) ⊥ (λ table. has_variable table w ≡ true)
       go true e =
-          stays w (subst (λ (o : Option (IndexMap (SmallVec ℕ) N S)). MatchOption o ⊥ (λ table. has_word table w ≡ true))
+          stays w (subst (λ (o : Option (IndexMap (SmallVec ℕ) N S)). MatchOption o ⊥ (λ table. has_variable table w ≡ true))
           (ap (table_at tables) (sym (eqb-true p q e)) ∙ found) room)
       go false e = room
 
-  -- all words of a table kept their numbers
-  pub words_same : (new : List (ℕ × IndexMap (SmallVec ℕ) N S)) → new ≡ set_value (is_at (nat_cmp p)) tables t' → number_or none t' ≡ number_or none t
+  -- all variables of a table kept their numbers
+  pub variables_same : (new : List (ℕ × IndexMap (SmallVec ℕ) N S)) → new ≡ set_value (is_at (nat_cmp p)) tables t' → number_or none t' ≡ number_or none t
       → numbers_among none new ≡ numbers_among none tables
-  words_same new wrote same =
+  variables_same new wrote same =
       ap (λ es. numbers_among none es) wrote ∙ (numbers_written (numbers_among none tables p) (same ∙ numbers_at) ∙ back)
     where
       back : (λ q. cond (p == q) (numbers_among none tables p) (numbers_among none tables q)) ≡ numbers_among none tables
@@ -107,7 +107,7 @@ module _ {S N : Type 0} (none : N) (tables : List (ℕ × IndexMap (SmallVec ℕ
               go true e = ap (numbers_among none tables) (eqb-true p q e)
               go false e = refl
 
--- a word of a process without a table
+-- a variable of a process without a table
 module _ {S N : Type 0} (none : N) (tables : List (ℕ × IndexMap (SmallVec ℕ) N S)) (p : ℕ) (missing : table_at tables p ≡ None) where
   pub none_at : (w : List ℕ) → numbers_among none tables p w ≡ none
   none_at w = ap (λ (o : Option (IndexMap (SmallVec ℕ) N S)). option_map_or (λ table. number_or none table w) o none) missing
@@ -123,122 +123,122 @@ module _ {S N : Type 0} (none : N) (tables : List (ℕ × IndexMap (SmallVec ℕ
           go true e = ap (λ (k : ℕ). numbers_among none tables k w) (sym (eqb-true p q e)) ∙ (none_at w ∙ sym (same w))
           go false e = refl
 
-  pub word_again : (word : List ℕ) (number : N) → number ≡ none → numbers_among none tables ≡ with_number_of (numbers_among none tables) p word number
-  word_again word number same = own_again (with_number (numbers_among none tables p) word number) (λ w. go w (bytes_eq word w))
+  pub variable_again : (variable : List ℕ) (number : N) → number ≡ none → numbers_among none tables ≡ with_number_of (numbers_among none tables) p variable number
+  variable_again variable number same = own_again (with_number (numbers_among none tables p) variable number) (λ w. go w (bytes_eq variable w))
     where
       go : (w : List ℕ) (b : Bool) → cond b number (numbers_among none tables p w) ≡ none
       go w true = same
       go w false = none_at w
 
 -- a number of what is kept, where one row was written, or those of a process were
-module _ (f : Row → ℕ) (rows : ℕ → List ℕ → Row) (key : ℕ) where
-  at_word : (b : Bool) (r s : Row) → f (cond b r s) ≡ cond b (f r) (f s)
-  at_word true r s = refl
-  at_word false r s = refl
+module _ (f : Variable → ℕ) (rows : ℕ → List ℕ → Variable) (key : ℕ) where
+  at_variable : (b : Bool) (r s : Variable) → f (cond b r s) ≡ cond b (f r) (f s)
+  at_variable true r s = refl
+  at_variable false r s = refl
 
-  at_process : (b : Bool) (r s : List ℕ → Row) (w : List ℕ) → f (cond {A = List ℕ → Row} b r s w) ≡ cond {A = List ℕ → ℕ} b (λ v. f (r v)) (λ v. f (s v)) w
+  at_process : (b : Bool) (r s : List ℕ → Variable) (w : List ℕ) → f (cond {A = List ℕ → Variable} b r s w) ≡ cond {A = List ℕ → ℕ} b (λ v. f (r v)) (λ v. f (s v)) w
   at_process true r s w = refl
   at_process false r s w = refl
 
   -- the number of each row
-  abbrev each : (ℕ → List ℕ → Row) → ℕ → List ℕ → ℕ
+  abbrev each : (ℕ → List ℕ → Variable) → ℕ → List ℕ → ℕ
   each some q w = f (some q w)
 
-  word_set : (word : List ℕ) (row : Row) → each (with_number_of rows key word row) ≡ with_number_of (each rows) key word (f row)
-  word_set word row = λ i q w. one q w i
+  variable_set : (variable : List ℕ) (row : Variable) → each (with_number_of rows key variable row) ≡ with_number_of (each rows) key variable (f row)
+  variable_set variable row = λ i q w. one q w i
     where
-      one : (q : ℕ) (w : List ℕ) → f (with_number_of rows key word row q w) ≡ with_number_of (each rows) key word (f row) q w
+      one : (q : ℕ) (w : List ℕ) → f (with_number_of rows key variable row q w) ≡ with_number_of (each rows) key variable (f row) q w
       one q w =
-          at_process (key == q) (with_number (rows key) word row) (rows q) w
-          ∙ ap (λ (g : List ℕ → ℕ). cond {A = List ℕ → ℕ} (key == q) g (λ v. f (rows q v)) w) (λ i v. at_word (bytes_eq word v) row (rows key v) i)
+          at_process (key == q) (with_number (rows key) variable row) (rows q) w
+          ∙ ap (λ (g : List ℕ → ℕ). cond {A = List ℕ → ℕ} (key == q) g (λ v. f (rows q v)) w) (λ i v. at_variable (bytes_eq variable v) row (rows key v) i)
 
-  word_same : (word : List ℕ) (row : Row) → f row ≡ f (rows key word) → each (with_number_of rows key word row) ≡ each rows
-  word_same word row same = λ i q w. one q w i
+  variable_same : (variable : List ℕ) (row : Variable) → f row ≡ f (rows key variable) → each (with_number_of rows key variable row) ≡ each rows
+  variable_same variable row same = λ i q w. one q w i
     where
-      one : (q : ℕ) (w : List ℕ) → f (with_number_of rows key word row q w) ≡ f (rows q w)
+      one : (q : ℕ) (w : List ℕ) → f (with_number_of rows key variable row q w) ≡ f (rows q w)
       one q w = go (key == q) refl
         where
-          here : key ≡ q → (b : Bool) → bytes_eq word w ≡ b → f (cond b row (rows key w)) ≡ f (rows q w)
-          here e true h = same ∙ (ap (λ (v : List ℕ). f (rows key v)) (same_bytes word w h) ∙ ap (λ (k : ℕ). f (rows k w)) e)
+          here : key ≡ q → (b : Bool) → bytes_eq variable w ≡ b → f (cond b row (rows key w)) ≡ f (rows q w)
+          here e true h = same ∙ (ap (λ (v : List ℕ). f (rows key v)) (same_bytes variable w h) ∙ ap (λ (k : ℕ). f (rows k w)) e)
           here e false h = ap (λ (k : ℕ). f (rows k w)) e
 
-          go : (b : Bool) → (key == q) ≡ b → f (cond {A = List ℕ → Row} b (with_number (rows key) word row) (rows q) w) ≡ f (rows q w)
-          go true e = here (eqb-true key q e) (bytes_eq word w) refl
+          go : (b : Bool) → (key == q) ≡ b → f (cond {A = List ℕ → Variable} b (with_number (rows key) variable row) (rows q) w) ≡ f (rows q w)
+          go true e = here (eqb-true key q e) (bytes_eq variable w) refl
           go false e = refl
 
-  own_set : (own : List ℕ → Row) → each (with_own rows key own) ≡ with_own (each rows) key (λ w. f (own w))
+  own_set : (own : List ℕ → Variable) → each (with_own rows key own) ≡ with_own (each rows) key (λ w. f (own w))
   own_set own = λ i q w. at_process (key == q) own (rows q) w i
 
-  own_same : (own : List ℕ → Row) → ((w : List ℕ) → f (own w) ≡ f (rows key w)) → each (with_own rows key own) ≡ each rows
+  own_same : (own : List ℕ → Variable) → ((w : List ℕ) → f (own w) ≡ f (rows key w)) → each (with_own rows key own) ≡ each rows
   own_same own same = λ i q w. one q w i
     where
       one : (q : ℕ) (w : List ℕ) → f (with_own rows key own q w) ≡ f (rows q w)
       one q w = go (key == q) refl
         where
-          go : (b : Bool) → (key == q) ≡ b → f (cond {A = List ℕ → Row} b own (rows q) w) ≡ f (rows q w)
+          go : (b : Bool) → (key == q) ≡ b → f (cond {A = List ℕ → Variable} b own (rows q) w) ≡ f (rows q w)
           go true e = same w ∙ ap (λ (k : ℕ). f (rows k w)) (eqb-true key q e)
           go false e = refl
 
--- the words of what is kept
-abbrev kept : (List ℕ → ℕ) → (ℕ → List ℕ → Row) → Words
+-- the variables of what is kept
+abbrev kept : (List ℕ → ℕ) → (ℕ → List ℕ → Variable) → Variables
 kept processes rows = record {
   processes = processes;
-  values = λ process word. (rows process word).value;
-  contexts = λ process word. (rows process word).context;
-  tickets = λ process word. (rows process word).ticket;
+  values = λ process variable. (rows process variable).value;
+  contexts = λ process variable. (rows process variable).context;
+  tickets = λ process variable. (rows process variable).ticket;
 }
 
--- what a change of the tables makes of the words; a process goes by its number
-module _ (processes : List ℕ → ℕ) (rows new : ℕ → List ℕ → Row) where
+-- what a change of the tables makes of the variables; a process goes by its number
+module _ (processes : List ℕ → ℕ) (rows new : ℕ → List ℕ → Variable) where
   pub rows_same : new ≡ rows → kept processes new ≡ kept processes rows
   rows_same same = ap (kept processes) same
 
   module _ (key p : ℕ) (is : key ≡ p) where
-    module _ (word : List ℕ) where
-      -- one row was written: the words whose numbers are told for it, each as set or as the same
-      row_set : (row : Row) (values contexts tickets : ℕ → List ℕ → ℕ)
-          → (λ q w. (with_number_of rows key word row q w).value) ≡ values → (λ q w. (with_number_of rows key word row q w).context) ≡ contexts
-          → (λ q w. (with_number_of rows key word row q w).ticket) ≡ tickets → new ≡ with_number_of rows key word row
+    module _ (variable : List ℕ) where
+      -- one row was written: the variables whose numbers are told for it, each as set or as the same
+      row_set : (row : Variable) (values contexts tickets : ℕ → List ℕ → ℕ)
+          → (λ q w. (with_number_of rows key variable row q w).value) ≡ values → (λ q w. (with_number_of rows key variable row q w).context) ≡ contexts
+          → (λ q w. (with_number_of rows key variable row q w).ticket) ≡ tickets → new ≡ with_number_of rows key variable row
           → kept processes new ≡ record { processes = processes; values = values; contexts = contexts; tickets = tickets }
       row_set row values contexts tickets value context ticket set =
           ap (kept processes) set ∙ (λ i. record { processes = processes; values = value i; contexts = context i; tickets = ticket i })
 
-      is_set : (f : Row → ℕ) (row : Row) → each f rows key (with_number_of rows key word row) ≡ with_number_of (each f rows key rows) key word (f row)
-      is_set f row = word_set f rows key word row
+      is_set : (f : Variable → ℕ) (row : Variable) → each f rows key (with_number_of rows key variable row) ≡ with_number_of (each f rows key rows) key variable (f row)
+      is_set f row = variable_set f rows key variable row
 
-      is_same : (f : Row → ℕ) (row : Row) → f row ≡ f (rows key word) → each f rows key (with_number_of rows key word row) ≡ each f rows key rows
-      is_same f row same = word_same f rows key word row same
+      is_same : (f : Variable → ℕ) (row : Variable) → f row ≡ f (rows key variable) → each f rows key (with_number_of rows key variable row) ≡ each f rows key rows
+      is_same f row same = variable_same f rows key variable row same
 
       module _ (number : ℕ) where
-        pub value_set : new ≡ with_number_of rows key word (written (rows key word) (write.Value number)) → kept processes new ≡ with_word (kept processes rows) p word number
+        pub value_set : new ≡ with_number_of rows key variable (written (rows key variable) (write.Value number)) → kept processes new ≡ with_variable (kept processes rows) p variable number
         value_set set =
             row_set _ _ _ _ (is_set (λ r. r.value) _) (is_set (λ r. r.context) _) (is_same (λ r. r.ticket) _ refl) set
-            ∙ ap (λ (k : ℕ). with_word (kept processes rows) k word number) is
+            ∙ ap (λ (k : ℕ). with_variable (kept processes rows) k variable number) is
 
-        pub context_set : new ≡ with_number_of rows key word (written (rows key word) (write.Context number)) → kept processes new ≡ with_context (kept processes rows) p word number
+        pub context_set : new ≡ with_number_of rows key variable (written (rows key variable) (write.Context number)) → kept processes new ≡ with_context (kept processes rows) p variable number
         context_set set =
             row_set _ _ _ _ (is_same (λ r. r.value) _ refl) (is_set (λ r. r.context) _) (is_same (λ r. r.ticket) _ refl) set
-            ∙ ap (λ (k : ℕ). with_context (kept processes rows) k word number) is
+            ∙ ap (λ (k : ℕ). with_context (kept processes rows) k variable number) is
 
-        pub ticket_set : new ≡ with_number_of rows key word (written (rows key word) (write.Ticket number)) → kept processes new ≡ with_ticket (kept processes rows) p word number
+        pub ticket_set : new ≡ with_number_of rows key variable (written (rows key variable) (write.Ticket number)) → kept processes new ≡ with_ticket (kept processes rows) p variable number
         ticket_set set =
             row_set _ _ _ _ (is_same (λ r. r.value) _ refl) (is_same (λ r. r.context) _ refl) (is_set (λ r. r.ticket) _) set
-            ∙ ap (λ (k : ℕ). with_ticket (kept processes rows) k word number) is
+            ∙ ap (λ (k : ℕ). with_ticket (kept processes rows) k variable number) is
 
-    pub words_set : (own : List ℕ → Row) → ((w : List ℕ) → ((own w).context ≡ 0) × ((own w).ticket ≡ (rows p w).ticket)) → new ≡ with_own rows key own
-        → kept processes new ≡ with_words (kept processes rows) p (λ w. (own w).value)
-    words_set own begins set = ap (kept processes) set ∙ (whole ∙ ap (λ (k : ℕ). with_words (kept processes rows) k (λ w. (own w).value)) is)
+    pub variables_set : (own : List ℕ → Variable) → ((w : List ℕ) → ((own w).context ≡ 0) × ((own w).ticket ≡ (rows p w).ticket)) → new ≡ with_own rows key own
+        → kept processes new ≡ with_variables (kept processes rows) p (λ w. (own w).value)
+    variables_set own begins set = ap (kept processes) set ∙ (whole ∙ ap (λ (k : ℕ). with_variables (kept processes rows) k (λ w. (own w).value)) is)
       where
-        whole : kept processes (with_own rows key own) ≡ with_words (kept processes rows) key (λ w. (own w).value)
+        whole : kept processes (with_own rows key own) ≡ with_variables (kept processes rows) key (λ w. (own w).value)
         whole = λ i. record {
           processes = processes;
-          values = own_set (λ (r : Row). r.value) rows key own i;
-          contexts = (own_set (λ (r : Row). r.context) rows key own ∙ ap (λ (g : List ℕ → ℕ). with_own (λ q w. (rows q w).context) key g) (λ j w. (begins w).0 j)) i;
-          tickets = own_same (λ (r : Row). r.ticket) rows key own (λ w. (begins w).1 ∙ ap (λ (k : ℕ). (rows k w).ticket) (sym is)) i;
+          values = own_set (λ (r : Variable). r.value) rows key own i;
+          contexts = (own_set (λ (r : Variable). r.context) rows key own ∙ ap (λ (g : List ℕ → ℕ). with_own (λ q w. (rows q w).context) key g) (λ j w. (begins w).0 j)) i;
+          tickets = own_same (λ (r : Variable). r.ticket) rows key own (λ w. (begins w).1 ∙ ap (λ (k : ℕ). (rows k w).ticket) (sym is)) i;
         }
 
--- a process word was set
-pub process_set : (processes : List ℕ → ℕ) (rows : ℕ → List ℕ → Row) (new : List ℕ → ℕ) (word : List ℕ) (number p : ℕ) → number ≡ p
-    → new ≡ with_number processes word number → kept new rows ≡ with_process (kept processes rows) word p
-process_set processes rows new word number p is set =
-    ap (λ (x : List ℕ → ℕ). kept x rows) set ∙ ap (with_process (kept processes rows) word) is
+-- a process variable was set
+pub process_set : (processes : List ℕ → ℕ) (rows : ℕ → List ℕ → Variable) (new : List ℕ → ℕ) (variable : List ℕ) (number p : ℕ) → number ≡ p
+    → new ≡ with_number processes variable number → kept new rows ≡ with_process (kept processes rows) variable p
+process_set processes rows new variable number p is set =
+    ap (λ (x : List ℕ → ℕ). kept x rows) set ∙ ap (with_process (kept processes rows) variable) is

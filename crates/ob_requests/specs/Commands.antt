@@ -1,4 +1,4 @@
--- Commands: what a request asks of the namespace, and the words after its reply.
+-- Commands: what a request asks of the namespace, and the variables after its reply.
 --
 -- Source: this profile.
 use Rattle.std.specs.Prelude.{◌≡◌, ℕ, ◌+◌, min, List, Bool, true, false, Option, None, Some, if◌then◌else◌}
@@ -32,7 +32,7 @@ use Rattle.ob_parts.specs.Parts.{offset_value, text_of}
 use Rattle.ob_lines.specs.declared.change.Change.{Change}
 use Rattle.ob_lines.specs.declared.change.Change.TheVariants as change
 use Rattle.ob_lines.specs.Changes.{change_of}
-use Rattle.ob_requests.specs.Words.{Words, with_process, with_words, with_word, without_words, with_context, handed_on}
+use Rattle.ob_requests.specs.Variables.{Variables, with_process, with_variables, with_variable, without_variables, with_context, handed_on}
 
 -- the kind of the standard set that a line names
 abbrev pub kind_meant : KindForm → StandardKind
@@ -47,12 +47,12 @@ kind_meant Key = Right (Right key.Key)
 abbrev pub greatest_named : ℕ
 greatest_named = 4294967295
 
--- the handle that is meant, with these values of its process's words: the word's value and what is added to
+-- the handle that is meant, with these values of its process's variables: the variable's value and what is added to
 -- it. A sum past the greatest number would be that number; in a run there is none (`Offsets`).
 abbrev pub handle_meant : HandleForm (List ℕ) → (List ℕ → ℕ) → ℕ
-handle_meant handle values = min (values handle.word + offset_value handle.offset) greatest_named
+handle_meant handle values = min (values handle.variable + offset_value handle.offset) greatest_named
 
--- the handle that a name is relative to, with these values of its process's words; an absolute name has
+-- the handle that a name is relative to, with these values of its process's variables; an absolute name has
 -- none
 abbrev pub root_of : NameForm (List ℕ) → (List ℕ → ℕ) → Option ℕ
 root_of (Absolute text) values = None
@@ -93,34 +93,34 @@ abbrev pub IsOpenObject : Option KindForm → NameForm (List ℕ) → ℕ → (L
 IsOpenObject want name attrs values c =
     (bytes : List ℕ) × Spells (text_of name) bytes × (c ≡ command.OpenObject (root_of name values) bytes attrs (option_map kind_meant want))
 
--- the command that a request of a process spells, with these words
-abbrev pub IsCommand : Request (List ℕ) → Words → ℕ → Command StandardKind → Type 0
-IsCommand (CreateDirectory place attrs word) words process c = IsCreateDirectory place attrs (words.values process) c
-IsCommand (CreateShadowed shadow place attrs word) words process c = IsCreateShadowed shadow place attrs (words.values process) c
-IsCommand (CreateLink place attrs target word) words process c = IsCreateLink place attrs target (words.values process) c
-IsCommand (CreateObject kind place attrs args word) words process c = IsCreateObject kind place attrs args (words.values process) c
-IsCommand (OpenDirectory name attrs word) words process c = IsOpenDirectory name attrs (words.values process) c
-IsCommand (OpenLink name attrs word) words process c = IsOpenLink name attrs (words.values process) c
-IsCommand (OpenObject want name attrs word) words process c = IsOpenObject want name attrs (words.values process) c
-IsCommand (Close handle) words process c = c ≡ command.Close (handle_meant handle (words.values process))
-IsCommand (QueryLink handle) words process c = c ≡ command.QueryLink (handle_meant handle (words.values process))
-IsCommand (QueryName handle) words process c = c ≡ command.QueryName (handle_meant handle (words.values process))
-IsCommand (QueryDirectory handle room mode) words process c =
-    c ≡ command.QueryDirectory (handle_meant handle (words.values process)) (words.contexts process handle.word) room (is_single mode) (is_first mode)
-IsCommand (Duplicate handle to inherit word) words process c =
-    c ≡ command.Duplicate (handle_meant handle (words.values process)) (words.processes to) inherit
-IsCommand (MakeTemporary handle) words process c = c ≡ command.MakeTemporary (handle_meant handle (words.values process))
-IsCommand (MakePermanent handle) words process c = c ≡ command.MakePermanent (handle_meant handle (words.values process))
-IsCommand (SetDeviceMap handle) words process c = c ≡ command.SetDeviceMap (handle_meant handle (words.values process))
-IsCommand (NewProcess inherit child) words process c = c ≡ command.NewProcess inherit
-IsCommand ExitProcess words process c = c ≡ command.ExitProcess
+-- the command that a request of a process spells, with these variables
+abbrev pub IsCommand : Request (List ℕ) → Variables → ℕ → Command StandardKind → Type 0
+IsCommand (CreateDirectory place attrs variable) variables process c = IsCreateDirectory place attrs (variables.values process) c
+IsCommand (CreateShadowed shadow place attrs variable) variables process c = IsCreateShadowed shadow place attrs (variables.values process) c
+IsCommand (CreateLink place attrs target variable) variables process c = IsCreateLink place attrs target (variables.values process) c
+IsCommand (CreateObject kind place attrs args variable) variables process c = IsCreateObject kind place attrs args (variables.values process) c
+IsCommand (OpenDirectory name attrs variable) variables process c = IsOpenDirectory name attrs (variables.values process) c
+IsCommand (OpenLink name attrs variable) variables process c = IsOpenLink name attrs (variables.values process) c
+IsCommand (OpenObject want name attrs variable) variables process c = IsOpenObject want name attrs (variables.values process) c
+IsCommand (Close handle) variables process c = c ≡ command.Close (handle_meant handle (variables.values process))
+IsCommand (QueryLink handle) variables process c = c ≡ command.QueryLink (handle_meant handle (variables.values process))
+IsCommand (QueryName handle) variables process c = c ≡ command.QueryName (handle_meant handle (variables.values process))
+IsCommand (QueryDirectory handle room mode) variables process c =
+    c ≡ command.QueryDirectory (handle_meant handle (variables.values process)) (variables.contexts process handle.variable) room (is_single mode) (is_first mode)
+IsCommand (Duplicate handle to inherit variable) variables process c =
+    c ≡ command.Duplicate (handle_meant handle (variables.values process)) (variables.processes to) inherit
+IsCommand (MakeTemporary handle) variables process c = c ≡ command.MakeTemporary (handle_meant handle (variables.values process))
+IsCommand (MakePermanent handle) variables process c = c ≡ command.MakePermanent (handle_meant handle (variables.values process))
+IsCommand (SetDeviceMap handle) variables process c = c ≡ command.SetDeviceMap (handle_meant handle (variables.values process))
+IsCommand (NewProcess inherit child) variables process c = c ≡ command.NewProcess inherit
+IsCommand ExitProcess variables process c = c ≡ command.ExitProcess
 
 -- whether a status is SUCCESS
 abbrev pub is_success : Status → Bool
 is_success Success = true
 is_success status = false
 
--- the value of a word that is set: the handle that was given, or 0 where none was given
+-- the value of a variable that is set: the handle that was given, or 0 where none was given
 abbrev pub given_handle : Given → ℕ
 given_handle given.Nothing = 0
 given_handle (given.Handle handle) = handle
@@ -128,7 +128,7 @@ given_handle (given.Text text) = 0
 given_handle (given.Process process values) = 0
 given_handle (given.Page entries context) = 0
 
--- the process that a process word is set to: the child that was given, or 0 where none was given
+-- the process that a process variable is set to: the child that was given, or 0 where none was given
 abbrev pub given_process : Given → ℕ
 given_process given.Nothing = 0
 given_process (given.Handle handle) = 0
@@ -136,48 +136,48 @@ given_process (given.Text text) = 0
 given_process (given.Process process values) = process
 given_process (given.Page entries context) = 0
 
--- the words with a child, where the reply gives one: a process word names it, and it has the words of its
--- parent that are handed on to it; where none is given the process word is 0
-abbrev pub with_child : Words → ℕ → List ℕ → Bool → Given → Words
-with_child words parent word inherit (given.Process process handles) =
-    with_words (with_process words word process) process (handed_on (words.values parent) inherit handles)
-with_child words parent word inherit given.Nothing = with_process words word 0
-with_child words parent word inherit (given.Handle handle) = with_process words word 0
-with_child words parent word inherit (given.Text text) = with_process words word 0
-with_child words parent word inherit (given.Page entries context) = with_process words word 0
+-- the variables with a child, where the reply gives one: a process variable names it, and it has the variables of its
+-- parent that are handed on to it; where none is given the process variable is 0
+abbrev pub with_child : Variables → ℕ → List ℕ → Bool → Given → Variables
+with_child variables parent variable inherit (given.Process process handles) =
+    with_variables (with_process variables variable process) process (handed_on (variables.values parent) inherit handles)
+with_child variables parent variable inherit given.Nothing = with_process variables variable 0
+with_child variables parent variable inherit (given.Handle handle) = with_process variables variable 0
+with_child variables parent variable inherit (given.Text text) = with_process variables variable 0
+with_child variables parent variable inherit (given.Page entries context) = with_process variables variable 0
 
--- the words with the context of a page that is given to a process, which is kept for this handle word; anything else
--- that is given leaves the words
-abbrev pub with_page : Words → ℕ → List ℕ → Given → Words
-with_page words process word given.Nothing = words
-with_page words process word (given.Handle handle) = words
-with_page words process word (given.Text text) = words
-with_page words process word (given.Process child handles) = words
-with_page words process word (given.Page entries context) = with_context words process word context
+-- the variables with the context of a page that is given to a process, which is kept for this handle variable; anything else
+-- that is given leaves the variables
+abbrev pub with_page : Variables → ℕ → List ℕ → Given → Variables
+with_page variables process variable given.Nothing = variables
+with_page variables process variable (given.Handle handle) = variables
+with_page variables process variable (given.Text text) = variables
+with_page variables process variable (given.Process child handles) = variables
+with_page variables process variable (given.Page entries context) = with_context variables process variable context
 
--- the words after the reply to a process, which changes these of them
-abbrev pub changed : Change (List ℕ) → ℕ → Reply → Words → Words
-changed change.Nothing process reply words = words
-changed (change.Sets word) process reply words = with_word words process word (given_handle reply.given)
-changed (change.SetsFor to word) process reply words = with_word words (words.processes to) word (given_handle reply.given)
-changed (change.GivesUp word) process reply words = if is_success reply.status then with_word words process word 0 else words
-changed (change.TurnsPage word) process reply words = with_page words process word reply.given
-changed change.GivesAllUp process reply words = if is_success reply.status then without_words words process else words
-changed (change.SetsProcess word inherit) process reply words = with_child words process word inherit reply.given
+-- the variables after the reply to a process, which changes these of them
+abbrev pub changed : Change (List ℕ) → ℕ → Reply → Variables → Variables
+changed change.Nothing process reply variables = variables
+changed (change.Sets variable) process reply variables = with_variable variables process variable (given_handle reply.given)
+changed (change.SetsFor to variable) process reply variables = with_variable variables (variables.processes to) variable (given_handle reply.given)
+changed (change.GivesUp variable) process reply variables = if is_success reply.status then with_variable variables process variable 0 else variables
+changed (change.TurnsPage variable) process reply variables = with_page variables process variable reply.given
+changed change.GivesAllUp process reply variables = if is_success reply.status then without_variables variables process else variables
+changed (change.SetsProcess variable inherit) process reply variables = with_child variables process variable inherit reply.given
 
--- the same words, but of a child that is given its process word alone is set, and its own words aren't
-abbrev pub applied : Change (List ℕ) → ℕ → Reply → Words → Words
-applied (change.SetsProcess word inherit) process reply words = with_process words word (given_process reply.given)
-applied other process reply words = changed other process reply words
+-- the same variables, but of a child that is given its process variable alone is set, and its own variables aren't
+abbrev pub applied : Change (List ℕ) → ℕ → Reply → Variables → Variables
+applied (change.SetsProcess variable inherit) process reply variables = with_process variables variable (given_process reply.given)
+applied other process reply variables = changed other process reply variables
 
--- the words with those of a child, where one is given: it has the words of its parent that are handed on to it
-abbrev pub with_own_words : Words → ℕ → Bool → Given → Words
-with_own_words words parent inherit (given.Process process handles) = with_words words process (handed_on (words.values parent) inherit handles)
-with_own_words words parent inherit given.Nothing = words
-with_own_words words parent inherit (given.Handle handle) = words
-with_own_words words parent inherit (given.Text text) = words
-with_own_words words parent inherit (given.Page entries context) = words
+-- the variables with those of a child, where one is given: it has the variables of its parent that are handed on to it
+abbrev pub with_own_variables : Variables → ℕ → Bool → Given → Variables
+with_own_variables variables parent inherit (given.Process process handles) = with_variables variables process (handed_on (variables.values parent) inherit handles)
+with_own_variables variables parent inherit given.Nothing = variables
+with_own_variables variables parent inherit (given.Handle handle) = variables
+with_own_variables variables parent inherit (given.Text text) = variables
+with_own_variables variables parent inherit (given.Page entries context) = variables
 
--- the words after the reply to a request of a process
-abbrev pub words_after : Request (List ℕ) → ℕ → Reply → Words → Words
-words_after request process reply words = changed (change_of request) process reply words
+-- the variables after the reply to a request of a process
+abbrev pub variables_after : Request (List ℕ) → ℕ → Reply → Variables → Variables
+variables_after request process reply variables = changed (change_of request) process reply variables

@@ -1,4 +1,4 @@
-pub mod Words
+pub mod Variables
 pub mod Rows
 pub mod Tables
 pub mod Room

@@ -1,4 +1,4 @@
--- Room for what a reply changes of the words, made before the step.
+-- Room for what a reply changes of the variables, made before the step.
 --
 -- Source: this profile.
 use Rattle.std.specs.Prelude.{◌≡◌, ℕ, true, List}
@@ -6,28 +6,28 @@ use Rattle.ob_lines.specs.declared.change.Change.{Change}
 use Rattle.ob_lines.specs.declared.change.Change.TheVariants as change
 use Rattle.ob_lines.specs.declared.request.Request.{Request}
 use Rattle.ob_lines.specs.Changes.{change_of}
-use Rattle.ob_requests.specs.declared.words.Words.{Words}
-use Rattle.ob_requests.specs.Tables.{HasRoom, has_word, words_in}
+use Rattle.ob_requests.specs.declared.variables.Variables.{Variables}
+use Rattle.ob_requests.specs.Tables.{HasRoom, has_variable, variables_in}
 
--- there is room for the words that a reply to a process changes; a child's own words have none yet
-abbrev pub HasRoomFor : Words → ℕ → Change (List ℕ) → Type 0
-HasRoomFor words process change.Nothing = Unit {0}
-HasRoomFor words process (change.Sets word) = HasRoom words.handles process word
-HasRoomFor words process (change.SetsFor to word) = HasRoom words.handles ((words_in words).processes to) word
-HasRoomFor words process (change.GivesUp word) = Unit {0}
-HasRoomFor words process (change.TurnsPage word) = HasRoom words.handles process word
-HasRoomFor words process change.GivesAllUp = Unit {0}
-HasRoomFor words process (change.SetsProcess word inherit) = has_word words.processes word ≡ true
+-- there is room for the variables that a reply to a process changes; a child's own variables have none yet
+abbrev pub HasRoomFor : Variables → ℕ → Change (List ℕ) → Type 0
+HasRoomFor variables process change.Nothing = Unit {0}
+HasRoomFor variables process (change.Sets variable) = HasRoom variables.handles process variable
+HasRoomFor variables process (change.SetsFor to variable) = HasRoom variables.handles ((variables_in variables).processes to) variable
+HasRoomFor variables process (change.GivesUp variable) = Unit {0}
+HasRoomFor variables process (change.TurnsPage variable) = HasRoom variables.handles process variable
+HasRoomFor variables process change.GivesAllUp = Unit {0}
+HasRoomFor variables process (change.SetsProcess variable inherit) = has_variable variables.processes variable ≡ true
 
--- room is made for what is changed: where a word is set, or the context of its page
+-- room is made for what is changed: where a variable is set, or the context of its page
 abbrev pub NeedsRoom : Change (List ℕ) → Type 0
 NeedsRoom change.Nothing = ⊥
-NeedsRoom (change.Sets word) = Unit {0}
-NeedsRoom (change.SetsFor to word) = Unit {0}
-NeedsRoom (change.GivesUp word) = ⊥
-NeedsRoom (change.TurnsPage word) = Unit {0}
+NeedsRoom (change.Sets variable) = Unit {0}
+NeedsRoom (change.SetsFor to variable) = Unit {0}
+NeedsRoom (change.GivesUp variable) = ⊥
+NeedsRoom (change.TurnsPage variable) = Unit {0}
 NeedsRoom change.GivesAllUp = ⊥
-NeedsRoom (change.SetsProcess word inherit) = Unit {0}
+NeedsRoom (change.SetsProcess variable inherit) = Unit {0}
 
 -- A request takes memory before its command is started: for that room, or for the texts in it, which are those of
 -- creates and opens.

@@ -5,10 +5,10 @@ ghost use Rattle.ob_parts.specs.Parts.{offset_value, text_of, name_seen, place_s
 ghost use Rattle.ob_lines.specs.Grammar.{HasPlaceText, HasTexts, request_seen};
 ghost use Rattle.ob_parts.specs.Text.{IsText, Spells};
 ghost use Rattle.ob_requests.specs.Room.{Grows};
-ghost use Rattle.ob_requests.specs.Tables.{words_in};
+ghost use Rattle.ob_requests.specs.Tables.{variables_in};
 ghost use Rattle.ob_requests.specs.Commands.{greatest_named, kind_meant, handle_meant, root_of, IsCommand, IsCreateDirectory, IsCreateShadowed, IsCreateLink, IsCreateObject, IsOpenDirectory, IsOpenLink, IsOpenObject, IsPlace};
 
-use crate::words::Words;
+use crate::variables::Variables;
 use either::Either;
 use ob_base::{Handle, Proc};
 use ob_device::DeviceKind;
@@ -19,24 +19,24 @@ use ob_plain::PlainKind;
 use ob_standard::StandardKind;
 use std::alloc::AllocError;
 
-/// A process that asks for something, and the words of the script. (this profile)
+/// A process that asks for something, and the variables of the script. (this profile)
 #[derive(Clone, Copy)]
 pub struct Asker<'a> {
-    /// The words of the script.
-    pub words: &'a Words,
+    /// The variables of the script.
+    pub variables: &'a Variables,
     /// The process.
     pub process: Proc,
 }
 
 /// The command that a request spells, or out of memory. (this profile)
-pub type Asked = Result<Command<StandardKind>, AllocError>;
+pub type SpelledCommand = Result<Command<StandardKind>, AllocError>;
 
-/// The command that a request of a process spells, with the words of the script. The only fault is out of memory, for
+/// The command that a request of a process spells, with the variables of the script. The only fault is out of memory, for
 /// the texts of a create or an open. Source: this profile.
-pub fn command_of(asker: &Asker<'_>, request: &Request<&[u8]>) -> Asked
+pub fn command_of(asker: &Asker<'_>, request: &Request<&[u8]>) -> SpelledCommand
     requires texts { HasTexts (request_seen request.now) }
     ensures command { IfOk result (IsCommand (request_seen request.now)
-        (words_in asker.now.words.now) asker.now.process) }
+        (variables_in asker.now.variables.now) asker.now.process) }
     ensures grows { OnErr result (Grows (request_seen request.now)) }
 {
     match *request {
@@ -81,7 +81,7 @@ pub fn command_of(asker: &Asker<'_>, request: &Request<&[u8]>) -> Asked
             Ok(Command::QueryName { handle })
         }
         Request::QueryDirectory { handle, room, mode } => {
-            let context = asker.words.context_of(asker.process, handle.word);
+            let context = asker.variables.context_of(asker.process, handle.variable);
             let handle = handle_meant(asker, handle);
             Ok(Command::QueryDirectory {
                 handle,
@@ -98,7 +98,7 @@ pub fn command_of(asker: &Asker<'_>, request: &Request<&[u8]>) -> Asked
             ..
         } => {
             let handle = handle_meant(asker, handle);
-            let to = asker.words.process_of(to);
+            let to = asker.variables.process_of(to);
             Ok(Command::Duplicate {
                 handle,
                 to,
@@ -123,10 +123,10 @@ pub fn command_of(asker: &Asker<'_>, request: &Request<&[u8]>) -> Asked
 }
 
 // The create of a directory.
-fn create_directory(asker: &Asker<'_>, place: PlaceForm<&[u8]>, attrs: u32) -> Asked
+fn create_directory(asker: &Asker<'_>, place: PlaceForm<&[u8]>, attrs: u32) -> SpelledCommand
     requires { HasPlaceText (place_seen place) }
     ensures { IfOk result (IsCreateDirectory (place_seen place.entry) attrs
-        ((words_in asker.now.words.now).values asker.now.process)) }
+        ((variables_in asker.now.variables.now).values asker.now.process)) }
 {
     let place = place_of(asker, place)?;
     Ok(Command::CreateDirectory { place, attrs })
@@ -138,10 +138,10 @@ fn create_shadowed(
     shadow: HandleForm<&[u8]>,
     place: PlaceForm<&[u8]>,
     attrs: u32,
-) -> Asked
+) -> SpelledCommand
     requires { HasPlaceText (place_seen place) }
     ensures { IfOk result (IsCreateShadowed (handle_seen shadow.entry) (place_seen place.entry) attrs
-        ((words_in asker.now.words.now).values asker.now.process)) }
+        ((variables_in asker.now.variables.now).values asker.now.process)) }
 {
     let place = place_of(asker, place)?;
     let shadow = handle_meant(asker, shadow);
@@ -153,14 +153,19 @@ fn create_shadowed(
 }
 
 // The create of a symbolic link.
-fn create_link(asker: &Asker<'_>, place: PlaceForm<&[u8]>, attrs: u32, target: &[u8]) -> Asked
+fn create_link(
+    asker: &Asker<'_>,
+    place: PlaceForm<&[u8]>,
+    attrs: u32,
+    target: &[u8],
+) -> SpelledCommand
     requires place { HasPlaceText (place_seen place) }
     requires target { IsText target.now }
     ensures { IfOk result (IsCreateLink (place_seen place.entry) attrs target.now
-        ((words_in asker.now.words.now).values asker.now.process)) }
+        ((variables_in asker.now.variables.now).values asker.now.process)) }
 {
     let place = place_of(asker, place)?;
-    let target = decode(asker.words.alloc, target)?;
+    let target = decode(asker.variables.alloc, target)?;
     Ok(Command::CreateLink {
         place,
         attrs,
@@ -175,14 +180,14 @@ fn create_object(
     place: PlaceForm<&[u8]>,
     attrs: u32,
     args: &[u8],
-) -> Asked
+) -> SpelledCommand
     requires place { HasPlaceText (place_seen place) }
     requires args { IsText args.now }
     ensures { IfOk result (IsCreateObject kind (place_seen place.entry) attrs args.now
-        ((words_in asker.now.words.now).values asker.now.process)) }
+        ((variables_in asker.now.variables.now).values asker.now.process)) }
 {
     let place = place_of(asker, place)?;
-    let args = decode(asker.words.alloc, args)?;
+    let args = decode(asker.variables.alloc, args)?;
     let kind = kind_meant(kind);
     Ok(Command::CreateObject {
         place,
@@ -193,10 +198,10 @@ fn create_object(
 }
 
 // The open of a directory.
-fn open_directory(asker: &Asker<'_>, name: NameForm<&[u8]>, attrs: u32) -> Asked
+fn open_directory(asker: &Asker<'_>, name: NameForm<&[u8]>, attrs: u32) -> SpelledCommand
     requires { IsText (text_of (name_seen name)) }
     ensures { IfOk result (IsOpenDirectory (name_seen name.entry) attrs
-        ((words_in asker.now.words.now).values asker.now.process)) }
+        ((variables_in asker.now.variables.now).values asker.now.process)) }
 {
     let root = root_of(asker, name);
     let name = bytes_of(asker, name)?;
@@ -204,10 +209,10 @@ fn open_directory(asker: &Asker<'_>, name: NameForm<&[u8]>, attrs: u32) -> Asked
 }
 
 // The open of a symbolic link.
-fn open_link(asker: &Asker<'_>, name: NameForm<&[u8]>, attrs: u32) -> Asked
+fn open_link(asker: &Asker<'_>, name: NameForm<&[u8]>, attrs: u32) -> SpelledCommand
     requires { IsText (text_of (name_seen name)) }
     ensures { IfOk result (IsOpenLink (name_seen name.entry) attrs
-        ((words_in asker.now.words.now).values asker.now.process)) }
+        ((variables_in asker.now.variables.now).values asker.now.process)) }
 {
     let root = root_of(asker, name);
     let name = bytes_of(asker, name)?;
@@ -220,10 +225,10 @@ fn open_object(
     want: Option<KindForm>,
     name: NameForm<&[u8]>,
     attrs: u32,
-) -> Asked
+) -> SpelledCommand
     requires { IsText (text_of (name_seen name)) }
     ensures { IfOk result (IsOpenObject want (name_seen name.entry) attrs
-        ((words_in asker.now.words.now).values asker.now.process)) }
+        ((variables_in asker.now.variables.now).values asker.now.process)) }
 {
     let root = root_of(asker, name);
     let name = bytes_of(asker, name)?;
@@ -254,7 +259,7 @@ fn kind_meant(kind: KindForm) -> StandardKind
 fn place_of(asker: &Asker<'_>, place: PlaceForm<&[u8]>) -> Result<Place, AllocError>
     requires { HasPlaceText (place_seen place) }
     ensures { IfOk result (IsPlace (place_seen place.entry)
-        ((words_in asker.now.words.now).values asker.now.process)) }
+        ((variables_in asker.now.variables.now).values asker.now.process)) }
 {
     match place {
         PlaceForm::Named(name) => {
@@ -269,7 +274,7 @@ fn place_of(asker: &Asker<'_>, place: PlaceForm<&[u8]>) -> Result<Place, AllocEr
 // The handle that a name is relative to; none for an absolute name.
 fn root_of(asker: &Asker<'_>, name: NameForm<&[u8]>) -> Option<Handle>
     ensures { result
-        ≡ root_of (name_seen name.entry) ((words_in asker.now.words.now).values asker.now.process) }
+        ≡ root_of (name_seen name.entry) ((variables_in asker.now.variables.now).values asker.now.process) }
 {
     match name {
         NameForm::Absolute(_) => None,
@@ -283,18 +288,18 @@ fn bytes_of(asker: &Asker<'_>, name: NameForm<&[u8]>) -> Result<Bytes, AllocErro
     ensures { IfOk result (λ bytes. Spells (text_of (name_seen name.entry)) bytes) }
 {
     match name {
-        NameForm::Absolute(text) => decode(asker.words.alloc, text),
-        NameForm::Relative { text, .. } => decode(asker.words.alloc, text),
+        NameForm::Absolute(text) => decode(asker.variables.alloc, text),
+        NameForm::Relative { text, .. } => decode(asker.variables.alloc, text),
     }
 }
 
-// The handle that is meant: the value of a word, and the number that is added to it.
+// The handle that is meant: the value of a variable, and the number that is added to it.
 fn handle_meant(asker: &Asker<'_>, handle: HandleForm<&[u8]>) -> Handle
     ensures { result
         ≡ handle_meant (handle_seen handle.entry)
-        ((words_in asker.now.words.now).values asker.now.process) }
+        ((variables_in asker.now.variables.now).values asker.now.process) }
 {
-    let value = asker.words.value_of(asker.process, handle.word);
+    let value = asker.variables.value_of(asker.process, handle.variable);
     with_offset(value, handle.offset)
 }
 

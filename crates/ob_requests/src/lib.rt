@@ -1,19 +1,19 @@
-//! Requests of a script: the command that each spells by the script's words, and the words after its reply.
+//! Requests of a script: the command that each spells by the script's variables, and the variables after its reply.
 #![tactic(auto)]
 
 mod changes;
 mod commands;
 pub mod laws;
-mod row;
 mod table;
-mod word;
-mod word_tables;
-mod words;
+mod variable;
+mod variable_name;
+mod variable_tables;
+mod variables;
 
 pub use changes::given_handle;
-pub use commands::{Asked, Asker, command_of};
-pub use row::Row;
+pub use commands::{Asker, SpelledCommand, command_of};
 pub use table::{Table, keep};
-pub use word::Word;
-pub use word_tables::WordTables;
-pub use words::Words;
+pub use variable::Variable;
+pub use variable_name::VariableName;
+pub use variable_tables::VariableTables;
+pub use variables::Variables;

@@ -5,3 +5,5 @@ pub mod Hashed
 pub mod Kept
 pub mod Changes
 pub mod Lists
+pub mod Counted
+pub mod Listed

@@ -1,4 +1,4 @@
--- Rows by strictly rising stamps: what is found under a stamp, what stays without it, and that what is found tells the rows.
+-- Rows by strictly rising stamps: the row under a stamp, the rows without it, and that equal finds mean equal rows.
 use Rattle.std.proofs.Common.{◌≡◌, ◌∙◌, ◌⊎◌, ℕ, ◌<◌, ◌≤◌, Bool, true, false, cond, not, ◌==◌, List, [], ◌∷◌, filter, find, All, Option, None, Some, refl, ap, sym, arith, inl, inr, eq-eqb, get_or, length, take}
 use Rattle.std.proofs.lemmas.Bool.{cases_lt, eqb-true, ne_eqb}
 use Rattle.std.proofs.lemmas.List.{get_or-take, get_or_default, length-take}

@@ -1,7 +1,8 @@
 -- Changes of the rows of a namespace, one after another.
 --
 -- Source: this profile.
-use Rattle.std.specs.Prelude.{◌≡◌, ◌≢◌, ℕ, ◌<◌, Bool, true, false, ◌==◌, not, List, [], ◌∷◌, ◌++◌, All, filter}
+use Rattle.std.specs.Prelude.{◌≡◌, ◌≢◌, ℕ, ◌+◌, ◌<◌, Bool, true, false, ◌==◌, not, List, [], ◌∷◌, ◌++◌, Some, All, filter, length, map}
+use Rattle.std.specs.List.{AllPairs, find}
 use Rattle.ob_model.specs.declared.state.Row.{Row}
 use Rattle.ob_rows.specs.declared.change.RowChange.{RowChange}
 use Rattle.ob_rows.specs.declared.change.RowChange.TheVariants.{Added, Gone}
@@ -50,3 +51,12 @@ GoneUndoesAdded = (rows : List Row) (row : Row) → Fits rows (Added row) → ch
 -- rows by rising stamps stay so
 abbrev pub ChangesKeepRising : Type 0
 ChangesKeepRising = (rows : List Row) (changes : List RowChange) → AllFit rows changes → AreByStamp rows → AreByStamp (changed_by rows changes)
+
+-- Stamps that are listed as gone account for all that went as soon as the counts agree: where some of these rows stay and
+-- others come, no stamp is listed twice, each is that of a row that doesn't stay, and they are as many as the rows that
+-- don't, the rows that stay and those that come are the rows after the changes.
+abbrev pub CountsAccount : Type 0
+CountsAccount =
+    (rows later : List Row) (stays : Row → Bool) (gone : List ℕ) → AreByStamp rows → AllPairs (λ a b. a ≢ b) gone
+    → All (λ stamp. (r : Row) × (find (λ x. x.stamp == stamp) rows ≡ Some r) × (stays r ≡ false)) gone
+    → length (filter stays rows) + length gone ≡ length rows → changed_by rows (map Gone gone ++ map Added later) ≡ filter stays rows ++ later

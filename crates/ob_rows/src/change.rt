@@ -5,11 +5,12 @@ ghost use Rattle.ob_rows.specs.Changes.{
   GoneOfNoRow,
   GoneUndoesAdded,
   ChangesKeepRising,
+  CountsAccount,
 };
 
 use ob_model::Row;
 
-/// What became of one row of a namespace. (this profile)
+/// A change of one row of a namespace. (this profile)
 #[derive(Debug, Drop)]
 pub enum RowChange {
     /// A row was added, after all others: its stamp is above theirs.
@@ -27,4 +28,11 @@ pub fn changes_follow_one_another()
     ensures none { GoneOfNoRow }
     ensures undone { GoneUndoesAdded }
     ensures rising { ChangesKeepRising }
+{}
+
+/// The law by which changes are found from hints. Where stamps are listed as gone, each once and each of a row that went,
+/// and they are as many as the rows that went, the rows that stay and those that come are the rows after these stamps
+/// are taken away and those rows are added. Takes nothing and does nothing.
+pub fn counts_account_for_all()
+    ensures { CountsAccount }
 {}

@@ -7,5 +7,5 @@ mod index;
 mod stamped;
 mod table;
 
-pub use change::{RowChange, changes_follow_one_another};
+pub use change::{RowChange, changes_follow_one_another, counts_account_for_all};
 pub use table::{RowTable, table_finds_what_the_state_finds};

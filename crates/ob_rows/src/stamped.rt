@@ -1,7 +1,7 @@
 //! Rows by their stamps.
 
 ghost use Rattle.std.specs.Prelude.{◌≡◌, ◌<◌, ◌==◌, [], ◌∷◌, ◌++◌, length, filter, not};
-ghost use Rattle.std.specs.Prelude.{All, IfOk, OnErr};
+ghost use Rattle.std.specs.Prelude.{All, Contains, IfOk, OnErr};
 ghost use Rattle.std.specs.List.{find};
 ghost use Rattle.std.specs.Option.{option_copied};
 ghost use Rattle.ob_rows.specs.Rows.{AreByStamp};
@@ -44,7 +44,7 @@ impl StampedRows {
     pub(crate) fn len(&self) -> usize
         ensures count { result ≡ length self.now }
 
-        // What holds of all rows.
+        // An invariant of all rows.
         ensures rising { AreByStamp self.now }
     {
         self.map.len()
@@ -55,6 +55,13 @@ impl StampedRows {
         ensures { option_copied result ≡ find (λ row. row.stamp == stamp) self.now }
     {
         self.map.get(&stamp)
+    }
+
+    /// The stamps of all rows, in any order. The only error is out of memory.
+    pub(crate) fn stamps(&self, alloc: Global) -> Result<Vec<u64>, AllocError>
+        ensures { IfOk result (λ stamps. All (λ row. Contains stamps.items row.stamp) self.now) }
+    {
+        self.map.values().map(|row| row.stamp).collect(alloc)
     }
 
     /// Puts a row after the others, whose stamps must be below its own. Where memory runs out nothing has changed.

@@ -1,7 +1,7 @@
 //! The rows of a namespace.
 
 ghost use Rattle.std.specs.Prelude.{◌≡◌, ◌<◌, ◌==◌, [], ◌∷◌, ◌++◌, length, filter, not};
-ghost use Rattle.std.specs.Prelude.{All, IfOk, IsOk, IsTrue, OnOk, OnErr};
+ghost use Rattle.std.specs.Prelude.{All, Contains, IfOk, IsOk, IsTrue, OnOk, OnErr};
 ghost use Rattle.std.specs.List.{find};
 ghost use Rattle.std.specs.Option.{is_some, option_copied, option_map};
 ghost use Rattle.ob_rows.specs.Changes.{changed_by, is_gone, Fits};
@@ -57,26 +57,11 @@ impl RowTable {
         }
     }
 
-    /// A table of rows by rising stamps, which are copied.
-    ///
-    /// The only error is out of memory.
-    pub fn from_rows(alloc: Global, rows: &[Row]) -> Result<RowTable, AllocError>
-        requires rising { AreByStamp rows.now }
-        ensures { IfOk result (λ table. table ≡ rows.now) }
-    {
-        let mut table = RowTable::new(alloc);
-        for row in rows {
-            let copy = copy_of(alloc, row)?;
-            table.add(copy)?;
-        }
-        Ok(table)
-    }
-
     /// How many rows there are. Takes no memory.
     pub fn len(&self) -> usize
         ensures count { result ≡ length self.now }
 
-        // What holds of the rows of every table.
+        // An invariant of every table.
         ensures rising { AreByStamp self.now }
     {
         self.rows.len()
@@ -89,7 +74,7 @@ impl RowTable {
         self.rows.len() == 0
     }
 
-    /// What a component, of any length and with any bytes, finds in a directory: of the rows in it whose names are
+    /// Finds a component, of any length and with any bytes, in a directory: of the rows in it whose names are
     /// equal to the component, with `fold` for equality without regard to case, the one of least stamp; its stamp and
     /// its object. `None` exactly where no such row is there. Takes no memory.
     ///
@@ -121,6 +106,17 @@ impl RowTable {
         ensures { result ≡ is_some (find (λ row. row.stamp == stamp) self.now) }
     {
         self.row_of(stamp).is_some()
+    }
+
+    /// The stamps of all rows, in any order.
+    ///
+    /// The only error is out of memory.
+    ///
+    /// Source: the stamps are this profile.
+    pub fn stamps(&self, alloc: Global) -> Result<Vec<u64>, AllocError>
+        ensures { IfOk result (λ stamps. All (λ row. Contains stamps.items row.stamp) self.now) }
+    {
+        self.rows.stamps(alloc)
     }
 
     /// Whether a row of this stamp may be added: whether the stamp, which may be any number, is above those of all rows

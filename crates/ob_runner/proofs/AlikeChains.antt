@@ -13,7 +13,7 @@ use Rattle.ob_model.specs.declared.reply.ParseRun.{ParseRun}
 use Rattle.ob_model.specs.declared.reply.ParseRun.TheVariants as run
 use Rattle.ob_model.specs.declared.reply.Reply.{Reply}
 use Rattle.ob_model.specs.declared.state.Held.{Held}
-use Rattle.ob_model.specs.declared.state.Pending.{Pending}
+use Rattle.ob_model.specs.declared.state.PendingOpen.{PendingOpen}
 use Rattle.ob_model.specs.Alike.{AreAlike, AreAlikeCommands, AreAlikeAnswers, LeadOn, HoldOn, unvalued_answer, is_named}
 use Rattle.ob_model.specs.PendingOpens.{pending_of}
 use Rattle.ob_model.specs.Procedures.{Procedures}
@@ -64,7 +64,7 @@ module _ {K T F I : Type 0} where
 
 module _ {K T F I : Type 0} (g : Procedures K T F I) where
   -- what holds for the process of the open that waits holds for that of which it is known
-  for_its_process : (o : Option (Pending K)) (p : ℕ) (P : ℕ → Type 0) → MatchOption o ⊥ (λ x. x.process ≡ p) → MatchOption o ⊥ (λ x. P x.process) → P p
+  for_its_process : (o : Option (PendingOpen K)) (p : ℕ) (P : ℕ → Type 0) → MatchOption o ⊥ (λ x. x.process ≡ p) → MatchOption o ⊥ (λ x. P x.process) → P p
   for_its_process None p P is h = absurd h
   for_its_process (Some x) p P is h = subst P is h
 

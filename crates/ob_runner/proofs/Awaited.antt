@@ -12,7 +12,7 @@ use Rattle.ob_model.specs.declared.reply.Event.{Event}
 use Rattle.ob_model.specs.declared.reply.Event.TheVariants.{Start, Resume, Abandon}
 use Rattle.ob_model.specs.declared.reply.ParseRun.{ParseRun}
 use Rattle.ob_model.specs.declared.reply.Reply.{Reply}
-use Rattle.ob_model.specs.declared.state.Pending.{Pending}
+use Rattle.ob_model.specs.declared.state.PendingOpen.{PendingOpen}
 use Rattle.ob_model.specs.PendingOpens.{face_of, pending_of}
 use Rattle.ob_model.specs.Procedures.{Procedures}
 use Rattle.ob_model.specs.Sound.{IsSound}
@@ -34,18 +34,18 @@ module _ {K T F I : Type 0} (g : Procedures K T F I) where
       → IsSound s → IsNoEnd parse.ticket event → Step g s event answer t → IsParseOf s parse → IsParseOf t parse
   step_awaits s t event answer parse sound other does h = go (pending_of s parse.ticket) refl h
     where
-      go : (found : Option (Pending K)) → pending_of s parse.ticket ≡ found → MatchOption found ⊥ (λ x. (x.rest ≡ parse.rest) × (face_of s x.object ≡ Some parse.face)) → IsParseOf t parse
+      go : (found : Option (PendingOpen K)) → pending_of s parse.ticket ≡ found → MatchOption found ⊥ (λ x. (x.rest ≡ parse.rest) × (face_of s x.object ≡ Some parse.face)) → IsParseOf t parse
       go None e h = absurd h
       go (Some x) e h =
           let still = step_pending g parse.ticket x parse.face s t event answer sound other (e, h.1) does in
-          subst (λ (found : Option (Pending K)). MatchOption found ⊥ (λ y. (y.rest ≡ parse.rest) × (face_of t y.object ≡ Some parse.face))) (sym still.0) (h.0, still.1)
+          subst (λ (found : Option (PendingOpen K)). MatchOption found ⊥ (λ y. (y.rest ≡ parse.rest) × (face_of t y.object ≡ Some parse.face))) (sym still.0) (h.0, still.1)
 
 module _ {K T F I : Type 0} where
   -- its ticket was drawn
   pub awaited_drawn : (s : State K T F I) (parse : ToRun F) → IsSound s → IsParseOf s parse → parse.ticket < s.next_id
   awaited_drawn s parse sound h = go (pending_of s parse.ticket) refl h
     where
-      go : (found : Option (Pending K)) → pending_of s parse.ticket ≡ found → MatchOption found ⊥ (λ x. (x.rest ≡ parse.rest) × (face_of s x.object ≡ Some parse.face)) → parse.ticket < s.next_id
+      go : (found : Option (PendingOpen K)) → pending_of s parse.ticket ≡ found → MatchOption found ⊥ (λ x. (x.rest ≡ parse.rest) × (face_of s x.object ≡ Some parse.face)) → parse.ticket < s.next_id
       go None e h = absurd h
       go (Some x) e h =
           let same : x.ticket ≡ parse.ticket = eqb-true x.ticket parse.ticket (found_passes (λ y. y.ticket == parse.ticket) s.pending x e) in

@@ -15,9 +15,9 @@ use Rattle.ob_model.specs.Sound.{IsSound}
 use Rattle.ob_model.specs.State.{State}
 use Rattle.ob_model.specs.Step.{Step}
 use Rattle.ob_model.proofs.SoundPaths.{find_of, of_some}
-use Rattle.ob_types.specs.Brought.{run_of, run_of_end, brought as end_of}
-use Rattle.ob_types.specs.declared.brought.Brought.{Brought}
-use Rattle.ob_types.specs.declared.brought.Brought.TheVariants.{Unrun, Run}
+use Rattle.ob_types.specs.Pending.{run_of, run_of_end, brought as end_of}
+use Rattle.ob_types.specs.declared.pending.Pending.{Pending}
+use Rattle.ob_types.specs.declared.pending.Pending.TheVariants.{Unrun, Run}
 use Rattle.ob_types.specs.Parse.{ToRun, HasRun as HasRunOf, asked_of}
 use Rattle.ob_opens.specs.Waiting.{IsParseOf}
 use Rattle.ob_runner.specs.Completes.{Made, GivesUp, HasRun}
@@ -52,7 +52,7 @@ left_have_others {F} m n parses left same is =
     (All-map (λ k. n ≢ k) (λ (x : ToRun F). x.ticket) (filter (λ (x : ToRun F). not (x.ticket == n)) parses) (others_left n parses)))
 
 -- what became of a parse that was brought, and that was run or found no memory
-pub run_brought : {K T F I : Type 0} (brought : Brought T K F I) (parse : ParseRun) → run_of brought ≡ parse → HasRun parse → run_of_end (end_of brought).outcome ≡ parse
+pub run_brought : {K T F I : Type 0} (brought : Pending T K F I) (parse : ParseRun) → run_of brought ≡ parse → HasRun parse → run_of_end (end_of brought).outcome ≡ parse
 run_brought (Unrun asked) parse is ran = absurd (subst HasRun (sym is) ran)
 run_brought (Run parsed) parse is ran = is
 

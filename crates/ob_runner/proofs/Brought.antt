@@ -4,14 +4,14 @@ use Rattle.std.specs.Prelude.{MatchOption}
 use Rattle.ob_base.specs.declared.status.Status.TheVariants.{Success}
 use Rattle.ob_model.specs.declared.reply.Event.TheVariants.{Resume, Abandon}
 use Rattle.ob_model.specs.declared.reply.ParseRun.{ParseRun}
-use Rattle.ob_model.specs.declared.state.Pending.{Pending}
+use Rattle.ob_model.specs.declared.state.PendingOpen.{PendingOpen}
 use Rattle.ob_model.specs.PendingOpens.{pending_of, face_of}
 use Rattle.ob_model.specs.Procedures.{Procedures, ParseOutcome, OwnFaceIsSame}
 use Rattle.ob_model.specs.Refusals.{answers}
 use Rattle.ob_model.specs.State.{State}
 use Rattle.ob_model.specs.Step.{Step}
 use Rattle.ob_opens.proofs.Endings.{its_ticket}
-use Rattle.ob_types.specs.Brought.{run_of_end}
+use Rattle.ob_types.specs.Pending.{run_of_end}
 use Rattle.ob_types.specs.Parse.{ToRun, HasRun as HasRunOf, asked_of, IsFor}
 use Rattle.ob_opens.specs.Waiting.{answer_of, IsParseOf, IsAwaited}
 use Rattle.ob_opens.specs.declared.started.Started.{Started}
@@ -40,13 +40,13 @@ err_more P Q (Err e) more h = more h
 pub is_awaited : {K T F I : Type 0} (g : Procedures K T F I) → OwnFaceIsSame g → (s : State K T F I) (asked : ToRun F) → IsParseOf s asked → IsAwaited g s asked
 is_awaited {K} {T} {F} {I} g own s asked h = go (pending_of s asked.ticket) refl h
   where
-    at_face : (x : Pending K) (face : Option F) → x.rest ≡ asked.rest → face ≡ Some asked.face → asked.ticket ≡ x.ticket → MatchOption face ⊥ (λ pinned. IsFor g asked x pinned)
+    at_face : (x : PendingOpen K) (face : Option F) → x.rest ≡ asked.rest → face ≡ Some asked.face → asked.ticket ≡ x.ticket → MatchOption face ⊥ (λ pinned. IsFor g asked x pinned)
     at_face x None rest is ticket = cc
     at_face x (Some pinned) rest is ticket =
         let same : pinned ≡ asked.face = cc in
         record { ticket = ticket; rest = sym rest; face = subst (λ f. g.same_face asked.face f ≡ true) (sym same) (own asked.face) }
 
-    go : (found : Option (Pending K)) → pending_of s asked.ticket ≡ found → MatchOption found ⊥ (λ x. (x.rest ≡ asked.rest) × (face_of s x.object ≡ Some asked.face))
+    go : (found : Option (PendingOpen K)) → pending_of s asked.ticket ≡ found → MatchOption found ⊥ (λ x. (x.rest ≡ asked.rest) × (face_of s x.object ≡ Some asked.face))
         → MatchOption found ⊥ (λ x. MatchOption (face_of s x.object) ⊥ (λ pinned. IsFor g asked x pinned))
     go None e h = absurd h
     go (Some x) e h = at_face x (face_of s x.object) h.0 h.1 (sym (its_ticket g s asked.ticket x e))

@@ -14,7 +14,7 @@ use Rattle.ob_model.specs.declared.reply.Event.TheVariants.{Start, Resume}
 use Rattle.ob_model.specs.declared.reply.Given.TheVariants.{Handle}
 use Rattle.ob_model.specs.declared.reply.ParseRun.{ParseRun}
 use Rattle.ob_model.specs.declared.state.Object.{Object}
-use Rattle.ob_model.specs.declared.state.Pending.{Pending}
+use Rattle.ob_model.specs.declared.state.PendingOpen.{PendingOpen}
 use Rattle.ob_model.specs.declared.state.Held.{Held}
 use Rattle.ob_model.specs.declared.state.Wanted.{Wanted}
 use Rattle.ob_model.specs.declared.state.Wanted.TheVariants as wanted
@@ -70,7 +70,7 @@ abbrev pub left_to : {K T F I : Type 0} → State K T F I → ℕ → ℕ
 left_to s ticket = option_map_or (λ x. x.left) (pending_of s ticket) 0
 
 -- under the ticket waits this open, whose object parses; the handles are those of the state before
-abbrev pub IsBegun : {K T F I : Type 0} → Procedures K T F I → State K T F I → State K T F I → ℕ → Pending K → Type 0
+abbrev pub IsBegun : {K T F I : Type 0} → Procedures K T F I → State K T F I → State K T F I → ℕ → PendingOpen K → Type 0
 IsBegun g s t ticket y = (pending_of t ticket ≡ Some y) × IsParsing g t y.object × (t.handles ≡ s.handles)
 
 module _ {K T F I : Type 0} (g : Procedures K T F I) (t : State K T F I) (m : ℕ) where
@@ -92,14 +92,14 @@ module _ {K T F I : Type 0} (g : Procedures K T F I) (t : State K T F I) (m : �
       → IsBegun g u t m (record { ticket = u.next_id; process = p; object = o; rest = rest; left = n; attrs = attrs; wanted = wanted }) × (settle g t ≡ t)
   begins_with u p attrs wanted o rest n below parsing h = go (is_store_full u) h
     where
-      new : Pending K
+      new : PendingOpen K
       new = record { ticket = u.next_id; process = p; object = o; rest = rest; left = n; attrs = attrs; wanted = wanted }
 
       w : State K T F I
       w = with_pending u p attrs wanted o rest n
 
       stays : object_of (settle g w) o ≡ object_of u o
-      stays = object_of-settle g w o (alive_from_pin w o (any_last (λ (x : Pending K). x.object == o) u.pending new (eq-eqb o o refl)))
+      stays = object_of-settle g w o (alive_from_pin w o (any_last (λ (x : PendingOpen K). x.object == o) u.pending new (eq-eqb o o refl)))
 
       kept : IsParsing g (settle g w) o
       kept = subst (λ (x : Option (Object F I)). MatchOption (option_and_then face_in (option_map (λ y. y.body) x)) ⊥ (λ face. g.parses (g.kind_of face) ≡ true)) (sym stays) parsing
@@ -122,7 +122,7 @@ WaitsFor s ticket p = MatchOption (pending_of s ticket) ⊥ (λ x. x.process ≡
 module _ {K T F I : Type 0} (g : Procedures K T F I) (s t : State K T F I) (m : ℕ) where
   -- what waits under the new ticket: an open of this process
   abbrev pub BeginsFor : ℕ → Type 0
-  BeginsFor p = (y : Pending K) × IsBegun g s t m y × (y.process ≡ p)
+  BeginsFor p = (y : PendingOpen K) × IsBegun g s t m y × (y.process ≡ p)
 
   pub waits_for : (p : ℕ) → BeginsFor p → WaitsFor t m p
   waits_for p (y, begun, same) = subst (λ z. MatchOption z ⊥ (λ x. x.process ≡ p)) (sym begun.0) same
@@ -130,9 +130,9 @@ module _ {K T F I : Type 0} (g : Procedures K T F I) (s t : State K T F I) (m : 
 module _ {K T F I : Type 0} (g : Procedures K T F I) (s t : State K T F I) (m : ℕ) (sound : IsSound s) where
   -- an open that waits again, under another ticket, has fewer reparses
   abbrev WaitsOn : State K T F I → ℕ → ℕ → Type 0
-  WaitsOn u p left = (y : Pending K) × IsBegun g s u m y × (y.process ≡ p) × (y.left < left)
+  WaitsOn u p left = (y : PendingOpen K) × IsBegun g s u m y × (y.process ≡ p) × (y.left < left)
 
-  waits_with_fewer : (x : Pending K) (outcome : Option (ParseOutcome F I)) (v : State K T F I) → EndsOpen g (parsed_state s x.ticket outcome) x outcome (Ticket m) v → WaitsOn (settle g v) x.process x.left
+  waits_with_fewer : (x : PendingOpen K) (outcome : Option (ParseOutcome F I)) (v : State K T F I) → EndsOpen g (parsed_state s x.ticket outcome) x outcome (Ticket m) v → WaitsOn (settle g v) x.process x.left
   waits_with_fewer x None v h = let e : Ticket m ≡ answers NoMemory = h.0 in cc
   waits_with_fewer x (Some EndsItself) v h = absurd (opens_no_ticket g v m (parsed_state s x.ticket (Some EndsItself)) x.process x.attrs x.wanted Success x.object h)
   waits_with_fewer x (Some (EndsMade face inner)) v h = absurd (opens_no_ticket g v m (parsed_state s x.ticket (Some (EndsMade face inner))) x.process x.attrs x.wanted Success x.ticket h)
@@ -148,7 +148,7 @@ module _ {K T F I : Type 0} (g : Procedures K T F I) (s t : State K T F I) (m : 
       (again_usable g u x.process (open_mode x.wanted x.attrs) x.left text (Parse o rest n) again).1 h in
       subst (λ (w : State K T F I). WaitsOn w x.process x.left) (sym begun.1) (_, begun.0, refl, fewer)
 
-  resumes_with_fewer : (x : Pending K) (outcome : Option (ParseOutcome F I)) → Resumes g s x outcome (Ticket m) t → WaitsOn t x.process x.left
+  resumes_with_fewer : (x : PendingOpen K) (outcome : Option (ParseOutcome F I)) → Resumes g s x outcome (Ticket m) t → WaitsOn t x.process x.left
   resumes_with_fewer x outcome (v, h, left) = subst (λ (w : State K T F I). WaitsOn w x.process x.left) (sym left) (go (is_live s x.process) h)
     where
       u : State K T F I
@@ -165,7 +165,7 @@ module _ {K T F I : Type 0} (g : Procedures K T F I) (s t : State K T F I) (m : 
       left_behind : (left : ℕ) (p : ℕ) → WaitsOn t p left → left_to t m < left
       left_behind left p (y, begun, same, fewer) = subst (λ (k : ℕ). k < left) (sym (ap (λ z. option_map_or (λ x. x.left) z 0) begun.0)) fewer
 
-      go : (found : Option (Pending K)) → MatchOption found ⊥ (λ x. Resumes g s x outcome (Ticket m) t) → left_to t m < option_map_or (λ x. x.left) found 0
+      go : (found : Option (PendingOpen K)) → MatchOption found ⊥ (λ x. Resumes g s x outcome (Ticket m) t) → left_to t m < option_map_or (λ x. x.left) found 0
       go None h = absurd h
       go (Some x) h = left_behind x.left x.process (resumes_with_fewer x outcome h)
 
@@ -176,7 +176,7 @@ module _ {K T F I : Type 0} (g : Procedures K T F I) (s t : State K T F I) (m : 
       led : (q left : ℕ) → q ≡ p → WaitsOn t q left → BeginsFor g s t m p
       led q left is (y, begun, same, fewer) = (y, begun, same ∙ is)
 
-      go : (found : Option (Pending K)) → MatchOption found ⊥ (λ x. x.process ≡ p) → MatchOption found ⊥ (λ x. Resumes g s x outcome (Ticket m) t) → BeginsFor g s t m p
+      go : (found : Option (PendingOpen K)) → MatchOption found ⊥ (λ x. x.process ≡ p) → MatchOption found ⊥ (λ x. Resumes g s x outcome (Ticket m) t) → BeginsFor g s t m p
       go None waits h = absurd h
       go (Some x) waits h = led x.process x.left waits (resumes_with_fewer x outcome h)
 

@@ -11,7 +11,7 @@ use Rattle.ob_model.specs.declared.reply.Event.{Event}
 use Rattle.ob_model.specs.declared.reply.Event.TheVariants.{Start, Resume, Abandon}
 use Rattle.ob_model.specs.declared.reply.Given.TheVariants.{Handle}
 use Rattle.ob_model.specs.declared.state.Held.{Held}
-use Rattle.ob_model.specs.declared.state.Pending.{Pending}
+use Rattle.ob_model.specs.declared.state.PendingOpen.{PendingOpen}
 use Rattle.ob_model.specs.declared.state.Wanted.{Wanted}
 use Rattle.ob_model.specs.declared.state.Wanted.TheVariants as wanted
 use Rattle.ob_model.specs.declared.terms.GrantOptions.{GrantOptions}
@@ -98,7 +98,7 @@ module _ {K T F I : Type 0} (g : Procedures K T F I) (t : State K T F I) (m : �
   start_next s p ExitProcess h = no_reply (start_replies g s t (Ticket m) p ExitProcess refl h)
 
   -- what a parse leads to, in the state in which it is judged
-  ends_next : (s : State K T F I) (x : Pending K) (outcome : Option (ParseOutcome F I)) → EndsOpen g (parsed_state s x.ticket outcome) x outcome (Ticket m) t → m ≡ s.next_id
+  ends_next : (s : State K T F I) (x : PendingOpen K) (outcome : Option (ParseOutcome F I)) → EndsOpen g (parsed_state s x.ticket outcome) x outcome (Ticket m) t → m ≡ s.next_id
   ends_next s x None h = let e : Ticket m ≡ answers NoMemory = h.0 in cc
   ends_next s x (Some EndsItself) h = absurd (no_open (parsed_state s x.ticket (Some EndsItself)) x.process x.attrs x.wanted Success x.object h)
   ends_next s x (Some (EndsMade face inner)) h = absurd (no_open (parsed_state s x.ticket (Some (EndsMade face inner))) x.process x.attrs x.wanted Success x.ticket h)
@@ -106,7 +106,7 @@ module _ {K T F I : Type 0} (g : Procedures K T F I) (t : State K T F I) (m : �
   ends_next s x (Some (EndsRefused k)) h = let e : Ticket m ≡ answers (TypeRefused k) = h.0 in cc
 
 module _ {K T F I : Type 0} (g : Procedures K T F I) (m : ℕ) where
-  resumes_next : (s t : State K T F I) (x : Pending K) (outcome : Option (ParseOutcome F I)) → Resumes g s x outcome (Ticket m) t → m ≡ s.next_id
+  resumes_next : (s t : State K T F I) (x : PendingOpen K) (outcome : Option (ParseOutcome F I)) → Resumes g s x outcome (Ticket m) t → m ≡ s.next_id
   resumes_next s t x outcome (v, h, settles) = go (is_live s x.process) h
     where
       u : State K T F I
@@ -121,11 +121,11 @@ module _ {K T F I : Type 0} (g : Procedures K T F I) (m : ℕ) where
   ticket_is_next s t (Start p c) h = start_next g t m s p c h
   ticket_is_next s t (Resume n parse) (outcome, brought, h) = go (pending_of s n) h
     where
-      go : (found : Option (Pending K)) → MatchOption found ⊥ (λ x. Resumes g s x outcome (Ticket m) t) → m ≡ s.next_id
+      go : (found : Option (PendingOpen K)) → MatchOption found ⊥ (λ x. Resumes g s x outcome (Ticket m) t) → m ≡ s.next_id
       go None h = absurd h
       go (Some x) h = resumes_next s t x outcome h
   ticket_is_next s t (Abandon n parse) (outcome, brought, h) = go (pending_of s n) h
     where
-      go : (found : Option (Pending K)) → MatchOption found ⊥ (λ x. Abandons g s x outcome (Ticket m) t) → m ≡ s.next_id
+      go : (found : Option (PendingOpen K)) → MatchOption found ⊥ (λ x. Abandons g s x outcome (Ticket m) t) → m ≡ s.next_id
       go None h = absurd h
       go (Some x) h = let e : Ticket m ≡ answers Success = h.0 in cc

@@ -13,7 +13,7 @@ use Rattle.ob_model.specs.declared.state.Body.{Body}
 use Rattle.ob_model.specs.declared.state.Body.TheVariants.{Directory, Link, Other}
 use Rattle.ob_model.specs.declared.state.Held.{Held}
 use Rattle.ob_model.specs.declared.state.Object.{Object}
-use Rattle.ob_model.specs.declared.state.Pending.{Pending}
+use Rattle.ob_model.specs.declared.state.PendingOpen.{PendingOpen}
 use Rattle.ob_model.specs.declared.state.Wanted.{Wanted}
 use Rattle.ob_model.specs.State.{State, is_live, object_of}
 use Rattle.ob_model.specs.declared.terms.Reason.{Reason}
@@ -110,7 +110,7 @@ module _ {K T F I : Type 0} (g : Procedures K T F I) where
 turned_object_face : {F I : Type 0} (o : ℕ) (permanent : Bool) (x : Object F I) → face_in (turned_object o permanent x).body ≡ face_in x.body
 turned_object_face o permanent x = elim (x.id == o) as (λ b. face_in (if b then record x { permanent = permanent } else x).body ≡ face_in x.body) [ true ↦ refl | false ↦ refl ]
 
-module _ {K T F I : Type 0} (g : Procedures K T F I) (k : ℕ) (x : Pending K) (f : F) where
+module _ {K T F I : Type 0} (g : Procedures K T F I) (k : ℕ) (x : PendingOpen K) (f : F) where
   -- under the ticket this open is pending, and the object that it pins has this face
   abbrev pub IsPending : State K T F I → Type 0
   IsPending s = (pending_of s k ≡ Some x) × (face_of s x.object ≡ Some f)
@@ -188,7 +188,7 @@ module _ {K T F I : Type 0} (g : Procedures K T F I) (k : ℕ) (x : Pending K) (
   -- the state in which the end of another open is judged
   module _ (s : State K T F I) (h : IsPending s) (n : ℕ) (other : n ≢ k) (reserved : All (λ y. y.id ≢ n) s.objects) where
     others_found : find (λ y. y.ticket == k) (filter (λ y. not (y.ticket == n)) s.pending) ≡ Some x
-    others_found = find-filter (λ (y : Pending K). y.ticket == k) (λ y. not (y.ticket == n)) (λ y is. ap not (ne_eqb y.ticket n (λ same. other (sym same ∙ eqb-true y.ticket k is)))) s.pending ∙ h.0
+    others_found = find-filter (λ (y : PendingOpen K). y.ticket == k) (λ y. not (y.ticket == n)) (λ y is. ap not (ne_eqb y.ticket n (λ same. other (sym same ∙ eqb-true y.ticket k is)))) s.pending ∙ h.0
 
     apart : n ≢ x.object
     apart same =
@@ -208,7 +208,7 @@ module _ {K T F I : Type 0} (g : Procedures K T F I) (k : ℕ) (x : Pending K) (
   step_pending s t (Start p command) answer sound other h does = came_pending s t sound h (started p command answer does)
   step_pending s t (Resume n parse) answer sound other h does = go (pending_of s n) refl (has_ticket s n sound) does.2
     where
-      go : (found : Option (Pending K)) → pending_of s n ≡ found → MatchOption found (Unit {0}) (HasTicket s) → MatchOption found ⊥ (λ y. Resumes g s y does.0 answer t) → IsPending t
+      go : (found : Option (PendingOpen K)) → pending_of s n ≡ found → MatchOption found (Unit {0}) (HasTicket s) → MatchOption found ⊥ (λ y. Resumes g s y does.0 answer t) → IsPending t
       go None e has resumes = absurd resumes
       go (Some y) e has resumes =
           let u = parsed_state s y.ticket does.0 in
@@ -219,7 +219,7 @@ module _ {K T F I : Type 0} (g : Procedures K T F I) (k : ℕ) (x : Pending K) (
           (came_pending u resumes.0 (parsed_sound s y.ticket does.0 has.0 has.1 sound) pending (judged ((not (is_live s y.process), ProcessGone) ∷ []) y does.0 answer resumes.1)))
   step_pending s t (Abandon n parse) answer sound other h does = go (pending_of s n) refl (has_ticket s n sound) does.2
     where
-      go : (found : Option (Pending K)) → pending_of s n ≡ found → MatchOption found (Unit {0}) (HasTicket s) → MatchOption found ⊥ (λ y. Abandons g s y does.0 answer t) → IsPending t
+      go : (found : Option (PendingOpen K)) → pending_of s n ≡ found → MatchOption found (Unit {0}) (HasTicket s) → MatchOption found ⊥ (λ y. Abandons g s y does.0 answer t) → IsPending t
       go None e has abandons = absurd abandons
       go (Some y) e has abandons =
           let same : y.ticket ≡ n = eqb-true y.ticket n (found_passes (λ z. z.ticket == n) s.pending y e) in

@@ -6,11 +6,11 @@ use Rattle.std.proofs.lemmas.List.{map-append}
 use Rattle.ob_base.specs.declared.status.Status.TheVariants.{Success}
 use Rattle.ob_model.specs.declared.reply.Event.{Event}
 use Rattle.ob_model.specs.declared.reply.Event.TheVariants.{Start, Resume, Abandon}
-use Rattle.ob_model.specs.declared.state.Pending.{Pending}
+use Rattle.ob_model.specs.declared.state.PendingOpen.{PendingOpen}
 use Rattle.ob_model.specs.PendingOpens.{pending_of}
 use Rattle.ob_model.specs.Refusals.{answers}
 use Rattle.ob_model.specs.State.{State}
-use Rattle.ob_choices.specs.Waiting.{others, WaitBehind}
+use Rattle.ob_model.specs.Waiting.{others, WaitBehind}
 use Rattle.ob_types.specs.Parse.{ToRun}
 use Rattle.ob_runner.specs.declared.begun.Begun.{Begun}
 use Rattle.ob_runner.specs.declared.begun.Begun.TheVariants.{Replied, Waits}
@@ -21,7 +21,7 @@ use Rattle.ob_model.specs.declared.reply.ParseRun.{ParseRun}
 
 module _ {K : Type 0} where
   -- the tickets of opens, without that of one
-  tickets-without : (ticket : ℕ) (opens : List (Pending K)) → map (λ x. x.ticket) (filter (λ x. not (x.ticket == ticket)) opens) ≡ without ticket (map (λ x. x.ticket) opens)
+  tickets-without : (ticket : ℕ) (opens : List (PendingOpen K)) → map (λ x. x.ticket) (filter (λ x. not (x.ticket == ticket)) opens) ≡ without ticket (map (λ x. x.ticket) opens)
   tickets-without ticket [] = refl
   tickets-without ticket (x ∷ opens) = go (not (x.ticket == ticket)) (tickets-without ticket opens)
     where
@@ -31,7 +31,7 @@ module _ {K : Type 0} where
       go true rest = ap (λ ks. x.ticket ∷ ks) rest
       go false rest = rest
 
-  any-found : (ticket : ℕ) (opens : List (Pending K)) → list_any (λ k. k == ticket) (map (λ x. x.ticket) opens) ≡ is_some (find (λ x. x.ticket == ticket) opens)
+  any-found : (ticket : ℕ) (opens : List (PendingOpen K)) → list_any (λ k. k == ticket) (map (λ x. x.ticket) opens) ≡ is_some (find (λ x. x.ticket == ticket) opens)
   any-found ticket [] = refl
   any-found ticket (x ∷ opens) = go (x.ticket == ticket) (any-found ticket opens)
     where
@@ -41,7 +41,7 @@ module _ {K : Type 0} where
       go false rest = rest
 
   -- the tickets of the opens that wait behind a step
-  behind : (opens after : List (Pending K)) (before : List ℕ) (begun : Begun) → map (λ x. x.ticket) opens ≡ before
+  behind : (opens after : List (PendingOpen K)) (before : List ℕ) (begun : Begun) → map (λ x. x.ticket) opens ≡ before
       → WaitBehind opens (answer_in begun) after → map (λ x. x.ticket) after ≡ with_begun begun before
   behind opens after before (Replied reply) same h = ap (λ xs. map (λ x. x.ticket) xs) h ∙ same
   behind opens after before (Waits n) same (x, last, own) =

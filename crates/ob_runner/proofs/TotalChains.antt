@@ -9,7 +9,7 @@ use Rattle.ob_model.specs.declared.reply.Event.{Event}
 use Rattle.ob_model.specs.declared.reply.Event.TheVariants.{Start, Resume}
 use Rattle.ob_model.specs.declared.reply.ParseRun.TheVariants as run
 use Rattle.ob_model.specs.declared.reply.Reply.{Reply}
-use Rattle.ob_model.specs.declared.state.Pending.{Pending}
+use Rattle.ob_model.specs.declared.state.PendingOpen.{PendingOpen}
 use Rattle.ob_model.specs.Parses.{IsParsed, IsBrought}
 use Rattle.ob_model.specs.PendingOpens.{face_of, pending_of}
 use Rattle.ob_model.specs.Procedures.{Procedures, ParseOutcome, ParseEnds, FrontIsUsed}
@@ -38,7 +38,7 @@ module _ {K T F I : Type 0} (g : Procedures K T F I) where
 
   module _ (law : FrontIsUsed g) where
     -- the parse of an object that parses has an end, over every rest
-    brought : (s : State K T F I) (n : ℕ) (y : Pending K) → pending_of s n ≡ Some y → IsParsing g s y.object
+    brought : (s : State K T F I) (n : ℕ) (y : PendingOpen K) → pending_of s n ≡ Some y → IsParsing g s y.object
         → (outcome : ParseOutcome F I) × IsBrought g s (Resume n run.Ran) (Some outcome)
     brought s n y found parsing =
         let ends = go (face_of s y.object) parsing in

@@ -12,7 +12,7 @@ use ob_core::{Core, Started};
 use ob_handles::HandleTable;
 use ob_model::{Command, Reply};
 use ob_types::laws::own_face;
-use ob_types::{Brought, Parsing, TypeSet};
+use ob_types::{Parsing, Pending, TypeSet};
 use std::alloc::{AllocError, Global};
 
 /// Runs a command of a process to its reply. Where an open reaches an object whose kind parses, the parse is run and
@@ -64,7 +64,7 @@ fn run_parses<T: TypeSet, H: HandleTable>(
         Ok(Started::Done(reply)) => Ok(reply),
         Ok(Started::Parsing(next)) => run_parses(core, alloc, next),
         Err((_, parsed)) => {
-            core.abandon(Brought::Run(parsed));
+            core.abandon(Pending::Run(parsed));
             Err(AllocError)
         }
     }

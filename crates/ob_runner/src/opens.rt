@@ -8,7 +8,7 @@ ghost use Rattle.ob_model.specs.declared.reply.ParseRun.{ParseRun};
 ghost use Rattle.ob_model.specs.declared.reply.ParseRun.TheVariants.{Unrun};
 ghost use Rattle.ob_model.specs.Refusals.{answers};
 ghost use Rattle.ob_model.specs.Step.{Step};
-ghost use Rattle.ob_types.specs.Brought.{run_of, run_of_end, brought as end_of};
+ghost use Rattle.ob_types.specs.Pending.{run_of, run_of_end, brought as end_of};
 ghost use Rattle.ob_types.specs.Parse.{asked_of};
 ghost use Rattle.ob_opens.specs.Waiting.{IsParseOf};
 ghost use Rattle.ob_runner.specs.Completes.{Made, HasRun, GivesUp, Falters};
@@ -20,7 +20,7 @@ use ob_base::Proc;
 use ob_handles::HandleTable;
 use ob_model::Command;
 use ob_types::laws::own_face;
-use ob_types::{Brought, Parsed, Parsing, TypeSet};
+use ob_types::{Parsed, Parsing, Pending, TypeSet};
 use std::alloc::{AllocError, Global};
 
 /// Starts a command of a process, and keeps its parse where it is an open that waits for one. Until that open is ended or
@@ -103,7 +103,7 @@ pub fn drop_open<T: TypeSet, H: HandleTable>(
 {
     core.state_is_sound();
     let dropped = waits.take(ticket);
-    abandon_open(core, Brought::Unrun(dropped));
+    abandon_open(core, Pending::Unrun(dropped));
 }
 
 /// Gives up all opens that wait, by rising tickets, without a run of their parses. Takes no memory.
@@ -116,7 +116,7 @@ pub fn give_all_up<T: TypeSet, H: HandleTable>(core: &mut Core<T, H>, waits: Wai
     let mut left = waits;
     while let Some(parsing) = left.take_first() {
         core.state_is_sound();
-        abandon_open(core, Brought::Unrun(parsing));
+        abandon_open(core, Pending::Unrun(parsing));
     }
     left.destroy_empty();
 }
@@ -146,7 +146,7 @@ pub(crate) fn resume_open<T: TypeSet, H: HandleTable>(
         Ok(Started::Done(reply)) => Ok(Begun::Replied(reply)),
         Ok(Started::Parsing(next)) => keep_parse(core, waits, next),
         Err((_, parsed)) => {
-            abandon_open(core, Brought::Run(parsed));
+            abandon_open(core, Pending::Run(parsed));
             Err(AllocError)
         }
     }
@@ -174,14 +174,14 @@ fn keep_parse<T: TypeSet, H: HandleTable>(
     match waits.keep(parsing) {
         Ok(()) => Ok(Begun::Waits(ticket)),
         Err(back) => {
-            abandon_open(core, Brought::Unrun(back));
+            abandon_open(core, Pending::Unrun(back));
             Err(AllocError)
         }
     }
 }
 
 /// Gives up the open that waits for a parse, whether that was run or not.
-pub(crate) fn abandon_open<T: TypeSet, H: HandleTable>(core: &mut Core<T, H>, brought: Brought<T>)
+pub(crate) fn abandon_open<T: TypeSet, H: HandleTable>(core: &mut Core<T, H>, brought: Pending<T>)
     requires { IsParseOf core.old (asked_of (end_of brought)) }
     ensures { Step T.procedures core.old (Abandon (end_of brought).ticket (run_of brought))
         (answers Success) core.new }

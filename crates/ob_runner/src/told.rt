@@ -7,7 +7,7 @@ ghost use Rattle.ob_model.specs.declared.reply.Event.TheVariants.{Resume, Abando
 ghost use Rattle.ob_model.specs.declared.reply.ParseRun.TheVariants.{NoMemory, Ran};
 ghost use Rattle.ob_model.specs.Refusals.{answers};
 ghost use Rattle.ob_model.specs.Step.{Step};
-ghost use Rattle.ob_types.specs.Brought.{run_of, run_of_end, brought as end_of};
+ghost use Rattle.ob_types.specs.Pending.{run_of, run_of_end, brought as end_of};
 ghost use Rattle.ob_types.specs.Parse.{asked_of};
 ghost use Rattle.ob_runner.specs.Completes.{Made, HasRun, GivesUp};
 ghost use Rattle.ob_runner.specs.Begun.{answer_in, AreAwaited, IfWaits, tickets_of, with_begun, without};
@@ -16,7 +16,7 @@ use crate::opens::{abandon_open, resume_open};
 use crate::{Begun, Core, Waits};
 use ob_handles::HandleTable;
 use ob_model::ParseRun;
-use ob_types::{Brought, Parsed, Parsing, TypeSet};
+use ob_types::{Parsed, Parsing, Pending, TypeSet};
 use std::alloc::{AllocError, Global};
 
 /// Ends an open that waits, by what became of its parse: where that `Ran`, it is run, and where it found `NoMemory`, it
@@ -54,7 +54,7 @@ pub(crate) fn end_open_as<T: TypeSet, H: HandleTable>(
     match bring_as(parsing, alloc, parse) {
         Ok(brought) => resume_open(core, waits, brought.into_parsed()),
         Err(parsed) => {
-            abandon_open(core, Brought::Run(parsed));
+            abandon_open(core, Pending::Run(parsed));
             Err(AllocError)
         }
     }
@@ -93,7 +93,7 @@ pub(crate) fn drop_open_as<T: TypeSet, H: HandleTable>(
             Ok(())
         }
         Err(parsed) => {
-            abandon_open(core, Brought::Run(parsed));
+            abandon_open(core, Pending::Run(parsed));
             Err(AllocError)
         }
     }
@@ -105,7 +105,7 @@ fn bring_as<T: TypeSet>(
     parsing: Parsing<T>,
     alloc: Global,
     parse: ParseRun,
-) -> Result<Brought<T>, Parsed<T>>
+) -> Result<Pending<T>, Parsed<T>>
     ensures told { IfOk result (λ brought. run_of brought ≡ parse) }
     ensures same { IfOk result (λ brought. asked_of (end_of brought) ≡ parsing) }
     ensures wanted { OnErr result (parse ≡ Ran) }
@@ -113,12 +113,12 @@ fn bring_as<T: TypeSet>(
     ensures back { IfErr result (λ parsed. asked_of parsed ≡ parsing) }
 {
     match parse {
-        ParseRun::Unrun => Ok(Brought::Unrun(parsing)),
-        ParseRun::NoMemory => Ok(Brought::Run(parsing.give_up())),
+        ParseRun::Unrun => Ok(Pending::Unrun(parsing)),
+        ParseRun::NoMemory => Ok(Pending::Run(parsing.give_up())),
         ParseRun::Ran => {
             let parsed = parsing.run(alloc);
             if parsed.ran() {
-                Ok(Brought::Run(parsed))
+                Ok(Pending::Run(parsed))
             } else {
                 Err(parsed)
             }

@@ -3,6 +3,7 @@
 ghost use Rattle.std.specs.Prelude.{◌≡◌, ◌<◌, ◌==◌, not, true, [], ◌∷◌, ◌++◌, Some};
 ghost use Rattle.std.specs.Prelude.{filter, map, All, AllPairs, IfErr, IfNone, IfSome, OnErr, OnOk};
 ghost use Rattle.std.specs.List.{find, list_any};
+ghost use Rattle.std.specs.Option.{option_copied};
 ghost use Rattle.ob_runner.specs.Begun.{tickets_of, without};
 
 use ob_types::{Parsing, TypeSet};
@@ -50,6 +51,13 @@ impl<T: TypeSet> Waits<T> {
         ensures { AllPairs (λ a b. a < b) (tickets_of self.now) }
     {
         let _parses = &self.parses;
+    }
+
+    /// The parse that is kept under a ticket, and `None` exactly where none is. Takes no memory. (this profile)
+    pub fn parse(&self, ticket: u64) -> Option<&Parsing<T>>
+        ensures { option_copied result ≡ find (λ parse. parse.ticket == ticket) self.now }
+    {
+        self.parses.get(&ticket)
     }
 
     /// Keeps a parse, whose ticket must be above those of all that are kept. Where memory runs out the parse is handed

@@ -15,7 +15,7 @@ use Rattle.ob_seats.specs.Received.{Entries, IsReceived}
 use Rattle.ob_standard.specs.Standard.{StandardKind}
 use Rattle.ob_seats.specs.Played.{IsRunBy}
 use Rattle.ob_seats.specs.Stopped.{IsAbandoned, IsBrokenOff, IsEventBrokenOff, IsNotKept, IsStepNotKept, IsStopAt}
-use Rattle.ob_requests.specs.Words.{Words}
+use Rattle.ob_requests.specs.Variables.{Variables}
 use Rattle.ob_seats.specs.declared.stop.Stop.{Stop}
 use Rattle.ob_seats.proofs.Told.{adds_none}
 
@@ -23,7 +23,7 @@ use Rattle.ob_seats.proofs.Told.{adds_none}
 abbrev pub IsBroughtBy : ℕ → Entries → Reply → Type 0
 IsBroughtBy n entries reply = (parse : ParseRun) × HasRun parse × IsRunBy (Resume n parse) entries reply
 
--- between these receipts lie entries by which an open that waits under one ticket comes to wait under another
+-- between these receipts are entries by which an open that waits under one ticket comes to wait under another
 abbrev pub GoesOn : Entries → ℕ → Entries → ℕ → Type 0
 GoesOn from n to m =
     (entries : Entries) × (to ≡ from ++ entries) × ((more : Entries) (reply : Reply) → IsBroughtBy m more reply → IsBroughtBy n (entries ++ more) reply)
@@ -82,9 +82,9 @@ breaks_off known why from at to event n (e, told, is, answer) (es, more, broken,
     (e ∷ es, more ∙ (ap (λ xs. xs ++ es) told ∙ append_assoc from (e ∷ []) es), (n, is, answer, broken), stop)
 
 -- an event leads to a ticket whose open isn't kept, and so doesn't wait
-pub step_not_kept : (from at to : Entries) (event : Event StandardKind) (n : ℕ) (why : Stop) (words : Words) → IsReceived from event (Ticket n) at → IsNotKept words n why
-    → (entries : Entries) × (to ≡ at ++ entries) × IsAbandoned n entries → (entries : Entries) × (to ≡ from ++ entries) × IsStepNotKept event entries why words
-step_not_kept from at to event n why words (e, told, is, answer) not (es, more, abandoned) =
+pub step_not_kept : (from at to : Entries) (event : Event StandardKind) (n : ℕ) (why : Stop) (variables : Variables) → IsReceived from event (Ticket n) at → IsNotKept variables n why
+    → (entries : Entries) × (to ≡ at ++ entries) × IsAbandoned n entries → (entries : Entries) × (to ≡ from ++ entries) × IsStepNotKept event entries why variables
+step_not_kept from at to event n why variables (e, told, is, answer) not (es, more, abandoned) =
     (e ∷ es, more ∙ (ap (λ xs. xs ++ es) told ∙ append_assoc from (e ∷ []) es), (e, n, es, refl, is, answer, abandoned, not))
 
 -- an open that doesn't wait any longer is abandoned, or was a stranger's

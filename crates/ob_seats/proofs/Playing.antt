@@ -13,7 +13,7 @@ use Rattle.ob_worker_lines.specs.declared.form.SeatForm.{SeatForm}
 use Rattle.ob_worker_lines.specs.Cuts.{AreSeatLines, Lines}
 use Rattle.ob_worker_lines.specs.Forms.{BeginsWithSeatLine, IsLineOfSeat}
 use Rattle.ob_worker_lines.proofs.Forms.{form_of_seat}
-use Rattle.ob_requests.specs.Words.{Words}
+use Rattle.ob_requests.specs.Variables.{Variables}
 use Rattle.ob_effects.specs.Waiting.{AreTickets, given_up}
 use Rattle.ob_seats.specs.Received.{Entries, IsReceived}
 use Rattle.ob_seats.specs.Played.{AreGivenUp, ArePlayed, IsLinePlayed, IsSeatPlayed}
@@ -30,19 +30,19 @@ use Rattle.ob_seats.specs.declared.stop.Stop.TheVariants.{Refused}
 use Rattle.ob_seats.proofs.Told.{adds_none}
 
 -- one line more is played
-pub played_more : (done : Lines) (was words words' : Words) (entries front : Entries) (line : List ℕ) (form : SeatForm (List ℕ)) → ArePlayed done was entries words → IsLineOfSeat line form
-    → IsLinePlayed form words front words' → ArePlayed (done ++ line ∷ []) was (entries ++ front) words'
-played_more [] was words words' entries front line form (none, same) is played = (
+pub played_more : (done : Lines) (was variables variables' : Variables) (entries front : Entries) (line : List ℕ) (form : SeatForm (List ℕ)) → ArePlayed done was entries variables → IsLineOfSeat line form
+    → IsLinePlayed form variables front variables' → ArePlayed (done ++ line ∷ []) was (entries ++ front) variables'
+played_more [] was variables variables' entries front line form (none, same) is played = (
   form,
   is,
   front,
   [],
-  words',
+  variables',
   ap (λ es. es ++ front) none ∙ adds_none front,
-  subst (λ w. IsLinePlayed form w front words') same played,
+  subst (λ w. IsLinePlayed form w front variables') same played,
   (refl, refl),
 )
-played_more (l ∷ ls) was words words' entries front line form (first, its, head, tail, between, whole, first_played, others) is played = (
+played_more (l ∷ ls) was variables variables' entries front line form (first, its, head, tail, between, whole, first_played, others) is played = (
   first,
   its,
   head,
@@ -50,20 +50,20 @@ played_more (l ∷ ls) was words words' entries front line form (first, its, hea
   between,
   ap (λ es. es ++ front) whole ∙ append_assoc head tail front,
   first_played,
-  played_more ls between words words' tail front line form others is played,
+  played_more ls between variables variables' tail front line form others is played,
 )
 
 -- the lines of a text were played as far as this rest
-pub record IsPlaying (text : List ℕ) (first : ℕ) (was : Words) (receipts : Entries) (rest : List ℕ) (number : ℕ) (words : Words) (receipts' : Entries) : Type 0 where
+pub record IsPlaying (text : List ℕ) (first : ℕ) (was : Variables) (receipts : Entries) (rest : List ℕ) (number : ℕ) (variables : Variables) (receipts' : Entries) : Type 0 where
   pub done : Lines
   pub entries : Entries
   pub whole : lines_of text ≡ done ++ lines_of rest
   pub numbered : number ≡ first + length done
   pub left : AreSeatLines (lines_of rest)
   pub received : receipts' ≡ receipts ++ entries
-  pub played : ArePlayed done was entries words
+  pub played : ArePlayed done was entries variables
 
-pub plays_none : (text : List ℕ) (first : ℕ) (was : Words) (receipts : Entries) → AreSeatLines (lines_of text) → IsPlaying text first was receipts text first was receipts
+pub plays_none : (text : List ℕ) (first : ℕ) (was : Variables) (receipts : Entries) → AreSeatLines (lines_of text) → IsPlaying text first was receipts text first was receipts
 plays_none text first was receipts all = record {
   done = [];
   entries = [];
@@ -74,24 +74,24 @@ plays_none text first was receipts all = record {
   played = (refl, refl);
 }
 
-module _ (text : List ℕ) (first : ℕ) (was : Words) (receipts : Entries) (rest : List ℕ) (number : ℕ) (words : Words) (receipts' : Entries) (playing : IsPlaying text first was receipts rest number words receipts') where
+module _ (text : List ℕ) (first : ℕ) (was : Variables) (receipts : Entries) (rest : List ℕ) (number : ℕ) (variables : Variables) (receipts' : Entries) (playing : IsPlaying text first was receipts rest number variables receipts') where
   module _ (behind : List ℕ) (form : SeatForm (List ℕ)) (begins : BeginsWithSeatLine rest (Some form) behind) where
-    pub plays_more : (words'' : Words) (receipts'' front : Entries) → receipts'' ≡ receipts' ++ front → IsLinePlayed form words front words''
-        → IsPlaying text first was receipts behind (number + 1) words'' receipts''
-    plays_more words'' receipts'' front told played = record {
+    pub plays_more : (variables'' : Variables) (receipts'' front : Entries) → receipts'' ≡ receipts' ++ front → IsLinePlayed form variables front variables''
+        → IsPlaying text first was receipts behind (number + 1) variables'' receipts''
+    plays_more variables'' receipts'' front told played = record {
       done = playing.done ++ begins.0 ∷ [];
       entries = playing.entries ++ front;
       whole = playing.whole ∙ (ap (λ ls. playing.done ++ ls) begins.1 ∙ sym (append_assoc playing.done (begins.0 ∷ []) (lines_of behind)));
       numbered = ap (λ n. n + 1) playing.numbered ∙ (omega arith ∙ ap (λ n. first + n) (sym (length-append playing.done (begins.0 ∷ []))));
       left = (subst AreSeatLines begins.1 playing.left).1;
       received = told ∙ (ap (λ es. es ++ front) playing.received ∙ append_assoc receipts playing.entries front);
-      played = played_more playing.done was words words'' playing.entries front begins.0 form playing.played begins.2 played;
+      played = played_more playing.done was variables variables'' playing.entries front begins.0 form playing.played begins.2 played;
     }
 
     -- or it stops
-    pub stops_here : (known : Fault → Type 0) (words'' : Words) (receipts'' front : Entries) (why : Stop) → receipts'' ≡ receipts' ++ front → IsLineBegun known form words front why words''
-        → (entries : Entries) × (receipts'' ≡ receipts ++ entries) × IsPartStopped known first (lines_of text) was entries (record { line = number; why = why }) words''
-    stops_here known words'' receipts'' front why told begun = (
+    pub stops_here : (known : Fault → Type 0) (variables'' : Variables) (receipts'' front : Entries) (why : Stop) → receipts'' ≡ receipts' ++ front → IsLineBegun known form variables front why variables''
+        → (entries : Entries) × (receipts'' ≡ receipts ++ entries) × IsPartStopped known first (lines_of text) was entries (record { line = number; why = why }) variables''
+    stops_here known variables'' receipts'' front why told begun = (
       playing.entries ++ front,
       told ∙ (ap (λ es. es ++ front) playing.received ∙ append_assoc receipts playing.entries front),
       record {
@@ -103,7 +103,7 @@ module _ (text : List ℕ) (first : ℕ) (was : Words) (receipts : Entries) (res
         own = playing.entries;
         begun = front;
         received = refl;
-        between = words;
+        between = variables;
         played = playing.played;
         form = form;
         is_form = begins.2;
@@ -118,8 +118,8 @@ module _ (text : List ℕ) (first : ℕ) (was : Words) (receipts : Entries) (res
     all_done : lines_of text ≡ playing.done
     all_done = playing.whole ∙ (ap (λ r. playing.done ++ lines_of r) over ∙ sym (adds_none playing.done))
 
-    pub plays_all : (entries : Entries) × (receipts' ≡ receipts ++ entries) × ArePlayed (lines_of text) was entries words
-    plays_all = (playing.entries, playing.received, subst (λ ls. ArePlayed ls was playing.entries words) (sym all_done) playing.played)
+    pub plays_all : (entries : Entries) × (receipts' ≡ receipts ++ entries) × ArePlayed (lines_of text) was entries variables
+    plays_all = (playing.entries, playing.received, subst (λ ls. ArePlayed ls was playing.entries variables) (sym all_done) playing.played)
 
     pub numbers_all : number ≡ first + length (lines_of text)
     numbers_all = playing.numbered ∙ ap (λ ls. first + length ls) (sym all_done)
@@ -145,9 +145,9 @@ one_gone tickets left left' receipts receipts' receipts'' n e first told step go
   given = map-append step_of going.entries (e ∷ []) ∙ (ap (λ xs. xs ++ step_of e ∷ []) going.given ∙ (ap (λ x. map given_up going.gone ++ x ∷ []) step ∙ sym (map-append given_up going.gone (n ∷ []))));
 }
 
-pub all_gone : (words : Words) (tickets left : List ℕ) (receipts receipts' : Entries) → left ≡ [] → AreTickets words.tickets tickets → AreGoing tickets left receipts receipts'
-    → (entries : Entries) × (receipts' ≡ receipts ++ entries) × AreGivenUp words entries
-all_gone words tickets left receipts receipts' none listed going = (
+pub all_gone : (variables : Variables) (tickets left : List ℕ) (receipts receipts' : Entries) → left ≡ [] → AreTickets variables.tickets tickets → AreGoing tickets left receipts receipts'
+    → (entries : Entries) × (receipts' ≡ receipts ++ entries) × AreGivenUp variables entries
+all_gone variables tickets left receipts receipts' none listed going = (
   going.entries,
   going.received,
   (tickets, listed, going.given ∙ ap (map given_up) (adds_none going.gone ∙ (ap (λ ks. going.gone ++ ks) (sym none) ∙ sym going.whole))),
@@ -203,9 +203,9 @@ leaves tickets left left' receipts receipts' receipts'' n true first one none le
     let told = one refl in leaves_one tickets left left' receipts receipts' receipts'' n told.0 first told.1 (λ i. (told.2 i, told.3 i)) leaving
 leaves tickets left left' receipts receipts' receipts'' n false first one none leaving = leaves_more tickets left left' receipts receipts' receipts'' n first (none refl) leaving
 
-pub all_let_go : (words : Words) (tickets left : List ℕ) (receipts receipts' : Entries) → left ≡ [] → AreTickets words.tickets tickets → AreLeaving tickets left receipts receipts'
-    → (entries : Entries) × (receipts' ≡ receipts ++ entries) × AreLetGo words entries
-all_let_go words tickets left receipts receipts' none listed leaving = (
+pub all_let_go : (variables : Variables) (tickets left : List ℕ) (receipts receipts' : Entries) → left ≡ [] → AreTickets variables.tickets tickets → AreLeaving tickets left receipts receipts'
+    → (entries : Entries) × (receipts' ≡ receipts ++ entries) × AreLetGo variables entries
+all_let_go variables tickets left receipts receipts' none listed leaving = (
   leaving.entries,
   leaving.received,
   (
@@ -215,8 +215,8 @@ all_let_go words tickets left receipts receipts' none listed leaving = (
   ),
 )
 
--- a seat that stops lets go of what waits: at one of its lines, or at its end
-seat_stopped : (known : Fault → Type 0) (first : ℕ) (lines : Lines) (was left : Words) (stopped : Stopped) (receipts receipts' receipts'' : Entries)
+-- a seat that stops drops what waits: at one of its lines, or at its end
+seat_stopped : (known : Fault → Type 0) (first : ℕ) (lines : Lines) (was left : Variables) (stopped : Stopped) (receipts receipts' receipts'' : Entries)
     → (entries : Entries) × (receipts' ≡ receipts ++ entries) × (IsPartStopped known first lines was entries stopped left ⊎ IsEndStopped first lines was entries stopped left)
     → (entries : Entries) × (receipts'' ≡ receipts' ++ entries) × AreLetGo left entries
     → (entries : Entries) × (receipts'' ≡ receipts ++ entries) × IsSeatStopped known first lines was entries stopped
@@ -226,36 +226,36 @@ seat_stopped known first lines was left stopped receipts receipts' receipts'' (o
   record { own = own; ended = ended; left = left; whole = refl; stops = stops; let_go = let_go },
 )
 
--- what is known of a fault is known in other words
+-- what is known of a fault is known in other variables
 module _ (known known' : Fault → Type 0) (on : (fault : Fault) → known fault → known' fault) where
   stops_so : (why : Stop) → IsStopAt known why → IsStopAt known' why
   stops_so why (fault, is, same) = (fault, on fault is, same)
 
-  request_so : (request : Request (List ℕ)) (process : ℕ) (words : Words) (entries : Entries) (why : Stop) (words' : Words)
-      → IsRequestBegun known request process words entries why words' → IsRequestBegun known' request process words entries why words'
-  request_so request process words entries why words' (inl none) = inl none
-  request_so request process words entries why words' (inr (inl (c, is, off, stop, same))) = inr (inl (c, is, off, stops_so why stop, same))
-  request_so request process words entries why words' (inr (inr ran)) = inr (inr ran)
+  request_so : (request : Request (List ℕ)) (process : ℕ) (variables : Variables) (entries : Entries) (why : Stop) (variables' : Variables)
+      → IsRequestBegun known request process variables entries why variables' → IsRequestBegun known' request process variables entries why variables'
+  request_so request process variables entries why variables' (inl none) = inl none
+  request_so request process variables entries why variables' (inr (inl (c, is, off, stop, same))) = inr (inl (c, is, off, stops_so why stop, same))
+  request_so request process variables entries why variables' (inr (inr ran)) = inr (inr ran)
 
-  step_so : (pending : PendingForm (List ℕ)) (process : ℕ) (words : Words) (entries : Entries) (why : Stop) (words' : Words)
-      → IsStepBegun known pending process words entries why words' → IsStepBegun known' pending process words entries why words'
-  step_so (Begin want name attrs word) process words entries why words' (inl (none, inl memory, same)) = inl (none, inl memory, same)
-  step_so (Begin want name attrs word) process words entries why words' (inl (none, inr stop, same)) = inl (none, inr (stops_so why stop), same)
-  step_so (Begin want name attrs word) process words entries why words' (inr not) = inr not
-  step_so (End word) process words entries why words' (inl none) = inl none
-  step_so (End word) process words entries why words' (inr (inl (gone, stop, same))) = inr (inl (gone, stops_so why stop, same))
-  step_so (End word) process words entries why words' (inr (inr not)) = inr (inr not)
-  step_so (Drop word) process words entries why words' stranger = stranger
+  step_so : (pending : PendingForm (List ℕ)) (process : ℕ) (variables : Variables) (entries : Entries) (why : Stop) (variables' : Variables)
+      → IsStepBegun known pending process variables entries why variables' → IsStepBegun known' pending process variables entries why variables'
+  step_so (Begin want name attrs variable) process variables entries why variables' (inl (none, inl memory, same)) = inl (none, inl memory, same)
+  step_so (Begin want name attrs variable) process variables entries why variables' (inl (none, inr stop, same)) = inl (none, inr (stops_so why stop), same)
+  step_so (Begin want name attrs variable) process variables entries why variables' (inr not) = inr not
+  step_so (End variable) process variables entries why variables' (inl none) = inl none
+  step_so (End variable) process variables entries why variables' (inr (inl (gone, stop, same))) = inr (inl (gone, stops_so why stop, same))
+  step_so (End variable) process variables entries why variables' (inr (inr not)) = inr (inr not)
+  step_so (Drop variable) process variables entries why variables' stranger = stranger
 
-  line_so : (form : SeatForm (List ℕ)) (words : Words) (entries : Entries) (why : Stop) (words' : Words)
-      → IsLineBegun known form words entries why words' → IsLineBegun known' form words entries why words'
-  line_so Seal words entries why words' begun = begun
-  line_so (Line Nothing) words entries why words' begun = begun
-  line_so (Line Stat) words entries why words' begun = begun
-  line_so (Line (Asks process request)) words entries why words' begun = request_so request (words.processes process) words entries why words' begun
-  line_so (Line (Waits process pending)) words entries why words' (makes, begun) = (makes, step_so pending (words.processes process) words entries why words' begun)
+  line_so : (form : SeatForm (List ℕ)) (variables : Variables) (entries : Entries) (why : Stop) (variables' : Variables)
+      → IsLineBegun known form variables entries why variables' → IsLineBegun known' form variables entries why variables'
+  line_so Seal variables entries why variables' begun = begun
+  line_so (Line Nothing) variables entries why variables' begun = begun
+  line_so (Line Stat) variables entries why variables' begun = begun
+  line_so (Line (Asks process request)) variables entries why variables' begun = request_so request (variables.processes process) variables entries why variables' begun
+  line_so (Line (Waits process pending)) variables entries why variables' (makes, begun) = (makes, step_so pending (variables.processes process) variables entries why variables' begun)
 
-  part_so : (first : ℕ) (lines : Lines) (was : Words) (entries : Entries) (stopped : Stopped) (left : Words)
+  part_so : (first : ℕ) (lines : Lines) (was : Variables) (entries : Entries) (stopped : Stopped) (left : Variables)
       → IsPartStopped known first lines was entries stopped left → IsPartStopped known' first lines was entries stopped left
   part_so first lines was entries stopped left part = record {
     front = part.front;
@@ -274,7 +274,7 @@ module _ (known known' : Fault → Type 0) (on : (fault : Fault) → known fault
   }
 
   -- so a seat that stops at one of its lines
-  pub part_stopped : (first : ℕ) (lines : Lines) (was left : Words) (stopped : Stopped) (receipts receipts' receipts'' : Entries)
+  pub part_stopped : (first : ℕ) (lines : Lines) (was left : Variables) (stopped : Stopped) (receipts receipts' receipts'' : Entries)
       → (entries : Entries) × (receipts' ≡ receipts ++ entries) × IsPartStopped known first lines was entries stopped left
       → (entries : Entries) × (receipts'' ≡ receipts' ++ entries) × AreLetGo left entries
       → (entries : Entries) × (receipts'' ≡ receipts ++ entries) × IsSeatStopped known' first lines was entries stopped
@@ -282,7 +282,7 @@ module _ (known known' : Fault → Type 0) (on : (fault : Fault) → known fault
       seat_stopped known' first lines was left stopped receipts receipts' receipts'' (own, is, inl (part_so first lines was own stopped left part)) ended
 
 -- and one that stops at its end
-pub end_stopped : (known : Fault → Type 0) (first : ℕ) (lines : Lines) (was left : Words) (line : ℕ) (receipts receipts' receipts'' : Entries)
+pub end_stopped : (known : Fault → Type 0) (first : ℕ) (lines : Lines) (was left : Variables) (line : ℕ) (receipts receipts' receipts'' : Entries)
     → line ≡ first + length lines → (entries : Entries) × (receipts' ≡ receipts ++ entries) × ArePlayed lines was entries left
     → (entries : Entries) × (receipts'' ≡ receipts' ++ entries) × AreLetGo left entries
     → (entries : Entries) × (receipts'' ≡ receipts ++ entries) × IsSeatStopped known first lines was entries (record { line = line; why = Refused })
@@ -290,7 +290,7 @@ end_stopped known first lines was left line receipts receipts' receipts'' number
     seat_stopped known first lines was left (record { line = line; why = Refused }) receipts receipts' receipts'' (own, is, inr (record { played = played; number_is = number; refused = refl })) ended
 
 -- a seat plays its lines and gives up what waits
-pub seat_played : (lines : Lines) (was behind : Words) (receipts receipts' receipts'' : Entries) → (entries : Entries) × (receipts' ≡ receipts ++ entries) × ArePlayed lines was entries behind
+pub seat_played : (lines : Lines) (was behind : Variables) (receipts receipts' receipts'' : Entries) → (entries : Entries) × (receipts' ≡ receipts ++ entries) × ArePlayed lines was entries behind
     → (entries : Entries) × (receipts'' ≡ receipts' ++ entries) × AreGivenUp behind entries → (entries : Entries) × (receipts'' ≡ receipts ++ entries) × IsSeatPlayed lines was entries
 seat_played lines was behind receipts receipts' receipts'' (own, is, played) (ended, more, given) = (
   own ++ ended,

@@ -1,7 +1,7 @@
 -- What holds where all went well.
 use Rattle.std.proofs.Common.{◌≡◌, ◌≢◌, ℕ, not, true, false, Result, Ok, Err, OnOk, OnErr, IfOk, IfErr, List, [], ◌∷◌, ◌++◌, ap, refl, eq-eqb}
 use Rattle.std.proofs.lemmas.Bool.{ne_eqb}
-use Rattle.ob_requests.specs.Words.{Words}
+use Rattle.ob_requests.specs.Variables.{Variables}
 use Rattle.ob_effects.specs.Waiting.{is_waiting}
 
 module _ {X E : Type 0} (A B P : Type 0) (r : Result X E) where
@@ -26,12 +26,12 @@ pub adds_none : {X : Type 0} (xs : List X) → xs ≡ xs ++ []
 adds_none [] = refl
 adds_none (x ∷ xs) = λ i. x ∷ adds_none xs i
 
--- an open waits under a word, or none does
-pub waits : (words : Words) (process : ℕ) (word : List ℕ) → words.tickets process word ≢ 0 → is_waiting words process word ≡ true
-waits words process word some = ap not (ne_eqb (words.tickets process word) 0 some)
+-- an open waits under a variable, or none does
+pub waits : (variables : Variables) (process : ℕ) (variable : List ℕ) → variables.tickets process variable ≢ 0 → is_waiting variables process variable ≡ true
+waits variables process variable some = ap not (ne_eqb (variables.tickets process variable) 0 some)
 
-pub waits_not : (words : Words) (process : ℕ) (word : List ℕ) → words.tickets process word ≡ 0 → is_waiting words process word ≡ false
-waits_not words process word none = ap not (eq-eqb (words.tickets process word) 0 none)
+pub waits_not : (variables : Variables) (process : ℕ) (variable : List ℕ) → variables.tickets process variable ≡ 0 → is_waiting variables process variable ≡ false
+waits_not variables process variable none = ap not (eq-eqb (variables.tickets process variable) 0 none)
 
 -- a fact of what was given makes another one
 pub if_ok : {X E : Type 0} (A P : X → Type 0) (r : Result X E) → ((x : X) → A x → P x) → IfOk r A → IfOk r P

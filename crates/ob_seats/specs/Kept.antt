@@ -5,11 +5,11 @@ use Rattle.std.specs.Prelude.{◌≡◌, ◌≢◌, ◌<◌, ℕ, ◌==◌, not,
 use Rattle.std.specs.List.Sorted.{IsStrictlySortedBy}
 use Rattle.std.specs.Map.{keys_of}
 use Rattle.std.specs.Ordering.{nat_cmp}
-use Rattle.ob_requests.specs.Words.{Words}
+use Rattle.ob_requests.specs.Variables.{Variables}
 use Rattle.ob_effects.specs.Kept.{AreApart}
 use Rattle.ob_effects.specs.Waiting.{AreTickets}
 
--- these are all tickets under words, and no two words have the same
+-- these are all tickets under variables, and no two variables have the same
 pub record AreHeld (under : ℕ → List ℕ → ℕ) (tickets : List ℕ) : Type 0 where
   pub listed : AreTickets under tickets
   pub apart : AreApart under
@@ -27,6 +27,6 @@ IsNext tickets n = (n ≢ 0) × All (λ k. k < n) tickets
 abbrev pub without : ℕ → List ℕ → List ℕ
 without n tickets = filter (λ k. not (k == n)) tickets
 
--- the words for another seat: the same, but under none of them an open waits
-abbrev pub for_worker : Words → Words
-for_worker words = record words { tickets = λ process word. 0 }
+-- the variables for another seat: the same, but under none of them an open waits
+abbrev pub for_worker : Variables → Variables
+for_worker variables = record variables { tickets = λ process variable. 0 }

@@ -7,8 +7,8 @@ use Rattle.ob_model.specs.declared.reply.Answer.TheVariants.{Done, Ticket}
 use Rattle.ob_model.specs.declared.reply.Event.{Event}
 use Rattle.ob_model.specs.Run.{Entry}
 use Rattle.ob_standard.specs.Standard.{StandardKind}
-use Rattle.ob_seats.specs.declared.callers.Begun.{Begun}
-use Rattle.ob_seats.specs.declared.callers.Begun.TheVariants.{Replied, Waits}
+use Rattle.ob_seats.specs.declared.callers.CallOutcome.{CallOutcome}
+use Rattle.ob_seats.specs.declared.callers.CallOutcome.TheVariants.{Replied, Waits}
 
 -- entries of a journal, in their order
 abbrev pub Entries : Type 0
@@ -19,6 +19,6 @@ abbrev pub IsReceived : Entries → Event StandardKind → Answer → Entries �
 IsReceived receipts event answer receipts' = (e : Entry StandardKind) × (receipts' ≡ receipts ++ e ∷ []) × (e.event ≡ event) × (e.answer ≡ answer)
 
 -- how a step ended, as the machine's answer
-abbrev pub answer_of : {P : Type 0} → (P → ℕ) → Begun P → Answer
+abbrev pub answer_of : {P : Type 0} → (P → ℕ) → CallOutcome P → Answer
 answer_of ticket_of (Replied reply) = Done reply
 answer_of ticket_of (Waits parsing) = Ticket (ticket_of parsing)

@@ -1,4 +1,4 @@
-//! Requests of a seat's processes: each is run to its reply, which changes the words.
+//! Requests of a seat's processes: each is run to its reply, which changes the variables.
 
 ghost use Rattle.std.specs.Prelude.{◌≡◌, ◌++◌, IfOk, IfErr, OnOk, ℕ};
 ghost use Rattle.ob_model.specs.declared.reply.Event.TheVariants.{Start, Resume};
@@ -8,27 +8,27 @@ ghost use Rattle.ob_lines.specs.Grammar.{HasTexts, request_seen};
 ghost use Rattle.ob_lines.specs.Changes.{change_seen};
 ghost use Rattle.ob_requests.specs.Commands.{IsCommand};
 ghost use Rattle.ob_requests.specs.Room.{HasRoomFor};
-ghost use Rattle.ob_requests.specs.Tables.{words_in};
+ghost use Rattle.ob_requests.specs.Tables.{variables_in};
 ghost use Rattle.ob_seats.specs.Received.{Entries};
 ghost use Rattle.ob_seats.specs.Played.{IsRequestPlayed, IsRunBy};
 ghost use Rattle.ob_seats.specs.Stopped.{IsBrokenOff, IsEventBrokenOff, IsRequestBegun, IsStopAt};
 
-use crate::callers::{Begun, Callers};
+use crate::callers::{CallOutcome, Callers};
 use crate::changes::keep_reply;
 use crate::stop::Stop;
 use ob_base::Proc;
 use ob_lines::{Change, Request, change_of};
 use ob_model::{Command, Reply};
-use ob_requests::{Asker, Words, command_of};
+use ob_requests::{Asker, Variables, command_of};
 use ob_standard::StandardKind;
 use std::alloc::AllocError;
 use std::sync::Wait;
 
-/// Runs the request of a process to its reply, and changes the words that its reply changes.
+/// Runs the request of a process to its reply, and changes the variables that its reply changes.
 pub(crate) fn answer<R: Wait, C: Callers>(
     rt: &R,
     callers: &C,
-    words: &mut Words,
+    variables: &mut Variables,
     pass: C::Pass,
     process: Proc,
     request: Request<&[u8]>,
@@ -36,23 +36,23 @@ pub(crate) fn answer<R: Wait, C: Callers>(
     requires texts { HasTexts (request_seen request) }
     ensures played { OnOk (result.1) ((entries : Entries) × (C.receipts (result.0) ≡ C.receipts pass
         ++ entries)
-        × IsRequestPlayed (request_seen request.entry) process (words_in words.old) entries
-        (words_in words.new)) }
+        × IsRequestPlayed (request_seen request.entry) process (variables_in variables.old) entries
+        (variables_in variables.new)) }
     ensures begun { IfErr (result.1) (λ why. (entries : Entries) × (C.receipts (result.0)
         ≡ C.receipts pass ++ entries)
         × IsRequestBegun (C.gives_fault (result.0)) (request_seen request.entry) process
-        (words_in words.old) entries why (words_in words.new)) }
+        (variables_in variables.old) entries why (variables_in variables.new)) }
     ensures seat { C.seat_of (result.0) ≡ C.seat_of pass }
-    ensures tickets { (words_in words.new).tickets ≡ (words_in words.old).tickets }
+    ensures tickets { (variables_in variables.new).tickets ≡ (variables_in variables.old).tickets }
 {
     let change = change_of(&request);
-    match prepare(words, process, request, change) {
+    match prepare(variables, process, request, change) {
         Err(_) => (pass, Err(Stop::Memory)),
         Ok(command) => {
             let (pass, ran) = run(rt, callers, pass, process, &command);
             match ran {
                 Err(stop) => (pass, Err(stop)),
-                Ok(reply) => match keep_reply(words, process, change, &reply) {
+                Ok(reply) => match keep_reply(variables, process, change, &reply) {
                     Ok(()) => (pass, Ok(())),
                     Err(_) => (pass, Err(Stop::Memory)),
                 },
@@ -63,19 +63,19 @@ pub(crate) fn answer<R: Wait, C: Callers>(
 
 /// The command of a request, with room for what its reply changes.
 fn prepare(
-    words: &mut Words,
+    variables: &mut Variables,
     process: Proc,
     request: Request<&[u8]>,
     change: Change<&[u8]>,
 ) -> Result<Command<StandardKind>, AllocError>
     requires texts { HasTexts (request_seen request) }
     ensures command { IfOk result (IsCommand (request_seen request.entry)
-        (words_in words.old) process) }
-    ensures room { OnOk result (HasRoomFor words.new process (change_seen change.entry)) }
-    ensures same { words_in words.new ≡ words_in words.old }
+        (variables_in variables.old) process) }
+    ensures room { OnOk result (HasRoomFor variables.new process (change_seen change.entry)) }
+    ensures same { variables_in variables.new ≡ variables_in variables.old }
 {
-    words.make_room(process, change)?;
-    let asker = Asker { words, process };
+    variables.make_room(process, change)?;
+    let asker = Asker { variables, process };
     command_of(&asker, &request)
 }
 
@@ -96,8 +96,8 @@ fn run<R: Wait, C: Callers>(
 {
     let (pass, begun) = callers.start(pass, process, command);
     match begun {
-        Ok(Begun::Replied(reply)) => (pass, Ok(reply)),
-        Ok(Begun::Waits(parsing)) => bring(rt, callers, pass, parsing),
+        Ok(CallOutcome::Replied(reply)) => (pass, Ok(reply)),
+        Ok(CallOutcome::Waits(parsing)) => bring(rt, callers, pass, parsing),
         Err(fault) => (pass, Err(Stop::from(fault))),
     }
 }
@@ -123,8 +123,8 @@ fn bring<R: Wait, C: Callers>(
     for _ in rt.forever() {
         let (back, begun) = callers.resume(pass, parsing);
         match begun {
-            Ok(Begun::Replied(reply)) => return (back, Ok(reply)),
-            Ok(Begun::Waits(next)) => {
+            Ok(CallOutcome::Replied(reply)) => return (back, Ok(reply)),
+            Ok(CallOutcome::Waits(next)) => {
                 pass = back;
                 parsing = next;
             }

@@ -15,7 +15,7 @@ use ob_model::{Command, Reply};
 use ob_standard::StandardKind;
 
 /// How a step ended: with a reply, or with an open that waits for the parse `P`, which can be dropped only where `P` can.
-pub enum Begun<P> {
+pub enum CallOutcome<P> {
     /// The command is done, and this is its reply.
     Replied(Reply),
     /// An open reached an object whose kind parses, and waits for this parse.
@@ -58,7 +58,7 @@ pub trait Callers {
         pass: Self::Pass,
         process: Proc,
         command: &Command<StandardKind>,
-    ) -> (Self::Pass, Result<Begun<Self::Parsing>, Fault>)
+    ) -> (Self::Pass, Result<CallOutcome<Self::Parsing>, Fault>)
         ensures seat { seat_of (result.0) ≡ seat_of pass }
         ensures told { IfOk (result.1) (λ begun.
             IsReceived (receipts pass) (Start process command.now) (answer_of ticket_of begun)
@@ -72,7 +72,7 @@ pub trait Callers {
         &self,
         pass: Self::Pass,
         parsing: Self::Parsing,
-    ) -> (Self::Pass, Result<Begun<Self::Parsing>, Fault>)
+    ) -> (Self::Pass, Result<CallOutcome<Self::Parsing>, Fault>)
         ensures seat { seat_of (result.0) ≡ seat_of pass }
         ensures told { IfOk (result.1) (λ begun. (parse : ParseRun) × HasRun parse
             × IsReceived (receipts pass) (Resume (ticket_of parsing) parse)

@@ -1,41 +1,46 @@
-//! The changes of the words by a reply.
+//! The changes of the variables by a reply.
 
 ghost use Rattle.std.specs.Prelude.{◌≡◌, true, Bool, OnErr, OnOk, IfOk, List, ℕ};
 ghost use Rattle.std.specs.BTreeSet.{contains};
 ghost use Rattle.std.specs.Ordering.{nat_cmp};
 ghost use Rattle.ob_lines.specs.declared.change.Change.TheVariants.{SetsProcess};
 ghost use Rattle.ob_lines.specs.Changes.{change_seen};
-ghost use Rattle.ob_requests.specs.Commands.{changed, given_process, with_own_words};
+ghost use Rattle.ob_requests.specs.Commands.{changed, given_process, with_own_variables};
 ghost use Rattle.ob_requests.specs.Room.{HasRoomFor};
-ghost use Rattle.ob_requests.specs.Tables.{words_in, value_in, CanBegin, DifferInValues};
-ghost use Rattle.ob_requests.specs.Words.{handed_on, is_among, with_process};
+ghost use Rattle.ob_requests.specs.Tables.{variables_in, value_in, CanBegin, DifferInValues};
+ghost use Rattle.ob_requests.specs.Variables.{handed_on, is_among, with_process};
 
 use ob_base::{Handle, Proc};
 use ob_lines::Change;
 use ob_model::{Given, Handles, Reply};
-use ob_requests::{Row, Table, Words, keep};
+use ob_requests::{Table, Variable, Variables, keep};
 use std::alloc::{AllocError, Global};
 use std::collections::BTreeSet;
 
-/// Changes the words as a reply to a process says. Takes no memory except for the words of a child.
+/// Changes the variables as a reply to a process says. Takes no memory except for the variables of a child.
 pub(crate) fn keep_reply(
-    words: &mut Words,
+    variables: &mut Variables,
     process: Proc,
     change: Change<&[u8]>,
     reply: &Reply,
 ) -> Result<(), AllocError>
-    requires room { HasRoomFor words.old process (change_seen change) }
-    ensures changed { OnOk result (words_in words.new
-        ≡ changed (change_seen change.entry) process reply.now (words_in words.old)) }
+    requires room { HasRoomFor variables.old process (change_seen change) }
+    ensures changed { OnOk result (variables_in variables.new
+        ≡ changed (change_seen change.entry) process reply.now (variables_in variables.old)) }
     ensures kept { OnErr result ((child : List ℕ) × (inherit : Bool)
         × (change_seen change.entry ≡ SetsProcess child inherit)
-        × (words_in words.new
-        ≡ with_process (words_in words.old) child (given_process (reply.now.given)))) }
-    ensures tickets { (words_in words.new).tickets ≡ (words_in words.old).tickets }
+        × (variables_in variables.new
+        ≡ with_process (variables_in variables.old) child (given_process (reply.now.given)))) }
+    ensures tickets { (variables_in variables.new).tickets ≡ (variables_in variables.old).tickets }
 {
-    words.apply(process, change, reply);
+    variables.apply(process, change, reply);
     match change {
-        Change::SetsProcess { inherit, .. } => begin_child(words, process, inherit, &reply.given),
+        Change::SetsProcess { inherit, .. } => begin_child(
+            variables,
+            process,
+            inherit,
+            &reply.given,
+        ),
         Change::Nothing => Ok(()),
         Change::Sets(_) => Ok(()),
         Change::SetsFor { .. } => Ok(()),
@@ -45,23 +50,23 @@ pub(crate) fn keep_reply(
     }
 }
 
-/// Begins the words of the child that was given, where one was: it has those of its parent that are handed on to it.
+/// Begins the variables of the child that was given, where one was: it has those of its parent that are handed on to it.
 fn begin_child(
-    words: &mut Words,
+    variables: &mut Variables,
     parent: Proc,
     inherit: bool,
     given: &Given,
 ) -> Result<(), AllocError>
-    ensures begun { OnOk result (words_in words.new
-        ≡ with_own_words (words_in words.old) parent inherit given.now) }
-    ensures unchanged { OnErr result (words_in words.new ≡ words_in words.old) }
-    ensures tickets { (words_in words.new).tickets ≡ (words_in words.old).tickets }
+    ensures begun { OnOk result (variables_in variables.new
+        ≡ with_own_variables (variables_in variables.old) parent inherit given.now) }
+    ensures unchanged { OnErr result (variables_in variables.new ≡ variables_in variables.old) }
+    ensures tickets { (variables_in variables.new).tickets ≡ (variables_in variables.old).tickets }
 {
     match given {
         Given::Process(child, handles) => {
-            let own = words_to_hand_on(words, parent, *child, inherit, handles)?;
-            words.room_for_words(*child)?;
-            words.begin(*child, own);
+            let own = variables_to_hand_on(variables, parent, *child, inherit, handles)?;
+            variables.room_for_variables(*child)?;
+            variables.begin(*child, own);
             Ok(())
         }
         Given::Nothing => Ok(()),
@@ -71,23 +76,23 @@ fn begin_child(
     }
 }
 
-/// The words that a child of a parent gets: where it inherits, those of its parent's whose values are among these.
-fn words_to_hand_on(
-    words: &Words,
+/// The variables that a child of a parent gets: where it inherits, those of its parent's whose values are among these.
+fn variables_to_hand_on(
+    variables: &Variables,
     parent: Proc,
     child: Proc,
     inherit: bool,
     handles: &Handles,
-) -> Result<Table<Row>, AllocError>
+) -> Result<Table<Variable>, AllocError>
     ensures values { IfOk result (λ own. value_in own
-        ≡ handed_on ((words_in words.now).values parent) inherit handles.now) }
-    ensures begins { IfOk result (CanBegin (words_in words.now) child) }
+        ≡ handed_on ((variables_in variables.now).values parent) inherit handles.now) }
+    ensures begins { IfOk result (CanBegin (variables_in variables.now) child) }
 {
-    let mut own = words.words_for_child(parent, child, inherit)?;
+    let mut own = variables.variables_for_child(parent, child, inherit)?;
     if !inherit {
         return Ok(own);
     }
-    let values = values_of(words.alloc, handles.as_slice())?;
+    let values = values_of(variables.alloc, handles.as_slice())?;
     keep_among(&mut own, &values);
     Ok(own)
 }
@@ -104,8 +109,8 @@ fn values_of(alloc: Global, handles: &[Handle]) -> Result<BTreeSet<u32>, AllocEr
     Ok(values)
 }
 
-/// Keeps the words whose values are in a set; each other word means 0.
-fn keep_among(own: &mut Table<Row>, values: &BTreeSet<u32>)
+/// Keeps the variables whose values are in a set; each other variable means 0.
+fn keep_among(own: &mut Table<Variable>, values: &BTreeSet<u32>)
     ensures kept { (handles : List ℕ) → ((value : ℕ) → contains nat_cmp values.now value
         ≡ is_among handles value)
         → value_in own.new ≡ handed_on (value_in own.old) true handles }

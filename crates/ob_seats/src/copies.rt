@@ -1,22 +1,22 @@
-//! Words that another seat begins with.
+//! Variables that another seat begins with.
 
 ghost use Rattle.std.specs.Prelude.{◌≡◌, IfOk};
-ghost use Rattle.ob_requests.specs.Tables.{words_in};
+ghost use Rattle.ob_requests.specs.Tables.{variables_in};
 ghost use Rattle.ob_seats.specs.Kept.{for_worker};
 
-use ob_requests::Words;
+use ob_requests::Variables;
 use std::alloc::AllocError;
 
-/// A copy of words for a worker, who has no open that waits. The only fault is out of memory.
-pub(crate) fn words_for_worker(words: &Words) -> Result<Words, AllocError>
-    ensures { IfOk result (λ copy. words_in copy ≡ for_worker (words_in words.now)) }
+/// A copy of variables for a worker, who has no open that waits. The only fault is out of memory.
+pub(crate) fn variables_for_worker(variables: &Variables) -> Result<Variables, AllocError>
+    ensures { IfOk result (λ copy. variables_in copy ≡ for_worker (variables_in variables.now)) }
 {
-    let processes = words.processes.clone()?;
-    let handles = words.handles.without_tickets()?;
-    Ok(Words {
-        alloc: words.alloc,
+    let processes = variables.processes.clone()?;
+    let handles = variables.handles.without_tickets()?;
+    Ok(Variables {
+        alloc: variables.alloc,
         processes,
         handles,
-        recent: words.recent,
+        recent: variables.recent,
     })
 }

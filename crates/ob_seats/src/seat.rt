@@ -2,8 +2,8 @@
 
 ghost use Rattle.std.specs.Prelude.{◌≡◌, ◌+◌, ◌≤◌, ◌<◌, ◌^◌, ◌++◌, [], true, length, IfOk, IfErr, OnOk};
 ghost use Rattle.ob_lines.specs.Grammar.{FormHasTexts, form_seen};
-ghost use Rattle.ob_requests.specs.Tables.{words_in};
-ghost use Rattle.ob_requests.specs.Words.{first_words};
+ghost use Rattle.ob_requests.specs.Tables.{variables_in};
+ghost use Rattle.ob_requests.specs.Variables.{first_variables};
 ghost use Rattle.ob_worker_lines.specs.Cuts.{AreSeatLines};
 ghost use Rattle.ob_worker_lines.specs.Forms.{SeatFormHasTexts, seat_form_seen};
 ghost use Rattle.ob_worker_lines.specs.Parts.{lines_in};
@@ -20,55 +20,55 @@ ghost use Rattle.ob_seats.specs.Kept.{AreHeld, for_worker};
 
 use crate::asking::answer;
 use crate::callers::Callers;
-use crate::copies::words_for_worker;
+use crate::copies::variables_for_worker;
 use crate::stop::{Stop, Stopped};
 use crate::waiting::carry_on;
 use crate::waits::SeatWaits;
 use ob_lines::Form;
-use ob_requests::Words;
+use ob_requests::Variables;
 use ob_worker_lines::{Part, SeatForm, read_seat_line};
 use std::alloc::{AllocError, Global};
 use std::sync::Wait;
 
-/// The state of a seat between its lines: the words of its script, and the opens that wait under them. It can't be
-/// dropped: what waits is given up at its [end](Seat::end). Contracts see the words by `words_in`, and ask as `AreHeld`
+/// The state of a seat between its lines: the variables of its script, and the opens that wait under them. It can't be
+/// dropped: what waits is given up at its [end](Seat::end). Contracts see the variables by `variables_in`, and ask as `AreHeld`
 /// that the opens that wait are those under them. (this profile)
 pub struct Seat<C: Callers> {
-    pub(crate) words: Words,
+    pub(crate) variables: Variables,
     pub(crate) waits: SeatWaits<C>,
 }
 
 impl<C: Callers> Seat<C> {
     /// A seat that has run no line: `p1` is process 1, and no open waits. The only fault is out of memory. (this profile)
     pub fn new(alloc: Global) -> Result<Seat<C>, AllocError>
-        ensures first { IfOk result (λ seat. words_in seat.words ≡ first_words) }
-        ensures held { IfOk result (λ seat. AreHeld (words_in seat.words).tickets seat.waits) }
+        ensures first { IfOk result (λ seat. variables_in seat.variables ≡ first_variables) }
+        ensures held { IfOk result (λ seat. AreHeld (variables_in seat.variables).tickets seat.waits) }
     {
-        let words = Words::new(alloc)?;
+        let variables = Variables::new(alloc)?;
         Ok(Seat {
-            words,
+            variables,
             waits: SeatWaits::new(alloc),
         })
     }
 
-    /// A seat that begins with these words, under none of which an open waits. Takes no memory. (this profile)
-    pub fn with_words(words: Words) -> Seat<C>
-        requires none { AreHeld (words_in words).tickets [] }
-        ensures words { words_in result.words ≡ words_in words }
-        ensures held { AreHeld (words_in result.words).tickets result.waits }
+    /// A seat that begins with these variables, under none of which an open waits. Takes no memory. (this profile)
+    pub fn with_variables(variables: Variables) -> Seat<C>
+        requires none { AreHeld (variables_in variables).tickets [] }
+        ensures variables { variables_in result.variables ≡ variables_in variables }
+        ensures held { AreHeld (variables_in result.variables).tickets result.waits }
     {
-        let waits = SeatWaits::new(words.alloc);
-        Seat { words, waits }
+        let waits = SeatWaits::new(variables.alloc);
+        Seat { variables, waits }
     }
 
-    /// The words that a worker begins with: the same, with their contexts, and under none of them an open waits. The only fault is out of memory.
+    /// The variables that a worker begins with: the same, with their contexts, and under none of them an open waits. The only fault is out of memory.
     /// (this profile)
-    pub fn words_for_worker(&self) -> Result<Words, AllocError>
-        ensures words { IfOk result (λ words. words_in words
-            ≡ for_worker (words_in self.now.words)) }
-        ensures none { IfOk result (λ words. AreHeld (words_in words).tickets []) }
+    pub fn variables_for_worker(&self) -> Result<Variables, AllocError>
+        ensures variables { IfOk result (λ variables. variables_in variables
+            ≡ for_worker (variables_in self.now.variables)) }
+        ensures none { IfOk result (λ variables. AreHeld (variables_in variables).tickets []) }
     {
-        words_for_worker(&self.words)
+        variables_for_worker(&self.variables)
     }
 
     /// Runs the lines of a part, one after another, by a pass, which comes back with the receipts of their steps. Ok gives the number after
@@ -85,12 +85,12 @@ impl<C: Callers> Seat<C> {
     ) -> (C::Pass, Result<u64, Stopped>)
         requires lines { AreSeatLines (lines_in part) }
         requires numbers { part.first + length (lines_in part) < 2 ^ 64 }
-        requires held { AreHeld (words_in self.old.words).tickets self.old.waits }
-        ensures held { AreHeld (words_in self.new.words).tickets self.new.waits }
+        requires held { AreHeld (variables_in self.old.variables).tickets self.old.waits }
+        ensures held { AreHeld (variables_in self.new.variables).tickets self.new.waits }
         ensures played { OnOk (result.1) ((entries : Entries) × (C.receipts (result.0)
             ≡ C.receipts pass ++ entries)
-            × ArePlayed (lines_in part.entry) (words_in self.old.words) entries
-            (words_in self.new.words)) }
+            × ArePlayed (lines_in part.entry) (variables_in self.old.variables) entries
+            (variables_in self.new.variables)) }
         ensures number { IfOk (result.1) (λ number. number
             ≡ part.entry.first + length (lines_in part.entry)) }
         ensures line { IfErr (result.1) (λ stopped. (part.entry.first ≤ stopped.line)
@@ -98,7 +98,7 @@ impl<C: Callers> Seat<C> {
         ensures stopped { IfErr (result.1) (λ stopped. (entries : Entries) × (C.receipts (result.0)
             ≡ C.receipts pass ++ entries)
             × IsPartStopped (C.gives_fault (result.0)) part.entry.first (lines_in part.entry)
-            (words_in self.old.words) entries stopped (words_in self.new.words)) }
+            (variables_in self.old.variables) entries stopped (variables_in self.new.variables)) }
         ensures seat { C.seat_of (result.0) ≡ C.seat_of pass }
     {
         let mut pass = pass;
@@ -128,16 +128,16 @@ impl<C: Callers> Seat<C> {
         form: SeatForm<&[u8]>,
     ) -> (C::Pass, Result<(), Stop>)
         requires texts { SeatFormHasTexts (seat_form_seen form) }
-        requires held { AreHeld (words_in self.old.words).tickets self.old.waits }
-        ensures held { AreHeld (words_in self.new.words).tickets self.new.waits }
+        requires held { AreHeld (variables_in self.old.variables).tickets self.old.waits }
+        ensures held { AreHeld (variables_in self.new.variables).tickets self.new.waits }
         ensures played { OnOk (result.1) ((entries : Entries) × (C.receipts (result.0)
             ≡ C.receipts pass ++ entries)
-            × IsLinePlayed (seat_form_seen form.entry) (words_in self.old.words) entries
-            (words_in self.new.words)) }
+            × IsLinePlayed (seat_form_seen form.entry) (variables_in self.old.variables) entries
+            (variables_in self.new.variables)) }
         ensures begun { IfErr (result.1) (λ why. (entries : Entries) × (C.receipts (result.0)
             ≡ C.receipts pass ++ entries)
             × IsLineBegun (C.gives_fault (result.0)) (seat_form_seen form.entry)
-            (words_in self.old.words) entries why (words_in self.new.words)) }
+            (variables_in self.old.variables) entries why (variables_in self.new.variables)) }
         ensures seat { C.seat_of (result.0) ≡ C.seat_of pass }
     {
         match form {
@@ -158,30 +158,30 @@ impl<C: Callers> Seat<C> {
         form: Form<&[u8]>,
     ) -> (C::Pass, Result<(), Stop>)
         requires texts { FormHasTexts (form_seen form) }
-        requires held { AreHeld (words_in self.old.words).tickets self.old.waits }
-        ensures held { AreHeld (words_in self.new.words).tickets self.new.waits }
+        requires held { AreHeld (variables_in self.old.variables).tickets self.old.waits }
+        ensures held { AreHeld (variables_in self.new.variables).tickets self.new.waits }
         ensures played { OnOk (result.1) ((entries : Entries) × (C.receipts (result.0)
             ≡ C.receipts pass ++ entries)
-            × IsScriptLinePlayed (form_seen form.entry) (words_in self.old.words) entries
-            (words_in self.new.words)) }
+            × IsScriptLinePlayed (form_seen form.entry) (variables_in self.old.variables) entries
+            (variables_in self.new.variables)) }
         ensures begun { IfErr (result.1) (λ why. (entries : Entries) × (C.receipts (result.0)
             ≡ C.receipts pass ++ entries)
             × IsScriptLineBegun (C.gives_fault (result.0)) (form_seen form.entry)
-            (words_in self.old.words) entries why (words_in self.new.words)) }
+            (variables_in self.old.variables) entries why (variables_in self.new.variables)) }
         ensures seat { C.seat_of (result.0) ≡ C.seat_of pass }
     {
         match form {
             Form::Nothing => (pass, Ok(())),
             Form::Stat => (pass, Ok(())),
             Form::Asks { process, request } => {
-                let process = self.words.process_of(process);
-                answer(rt, callers, &mut self.words, pass, process, request)
+                let process = self.variables.process_of(process);
+                answer(rt, callers, &mut self.variables, pass, process, request)
             }
             Form::Waits { process, pending } => {
-                let process = self.words.process_of(process);
+                let process = self.variables.process_of(process);
                 carry_on(
                     callers,
-                    &mut self.words,
+                    &mut self.variables,
                     &mut self.waits,
                     pass,
                     process,
@@ -194,15 +194,15 @@ impl<C: Callers> Seat<C> {
     /// Ends the seat: all opens that wait are given up, by rising tickets, and their parses aren't run. It returns whether each was given up by a step, as
     /// it is unless a parse is a stranger's. Takes no memory. (this profile)
     pub fn end(self, callers: &C, pass: C::Pass) -> (C::Pass, bool)
-        requires held { AreHeld (words_in self.words).tickets self.waits }
+        requires held { AreHeld (variables_in self.variables).tickets self.waits }
         ensures given_up { result.1 ≡ true → (entries : Entries) × (C.receipts (result.0)
-            ≡ C.receipts pass ++ entries) × AreGivenUp (words_in self.words) entries }
+            ≡ C.receipts pass ++ entries) × AreGivenUp (variables_in self.variables) entries }
         ensures let_go { (entries : Entries) × (C.receipts (result.0) ≡ C.receipts pass ++ entries)
-            × AreLetGo (words_in self.words) entries }
+            × AreLetGo (variables_in self.variables) entries }
         ensures seat { C.seat_of (result.0) ≡ C.seat_of pass }
     {
         let Seat {
-            words: _,
+            variables: _,
             mut waits,
         } = self;
         let mut pass = pass;
@@ -230,16 +230,16 @@ pub fn run_seat<R: Wait, C: Callers>(
 ) -> (C::Pass, Result<(), Stopped>)
     requires lines { AreSeatLines (lines_in part) }
     requires numbers { part.first + length (lines_in part) < 2 ^ 64 }
-    requires held { AreHeld (words_in seat.words).tickets seat.waits }
+    requires held { AreHeld (variables_in seat.variables).tickets seat.waits }
     ensures played { OnOk (result.1) ((entries : Entries) × (C.receipts (result.0) ≡ C.receipts pass
         ++ entries)
-        × IsSeatPlayed (lines_in part.entry) (words_in seat.words) entries) }
+        × IsSeatPlayed (lines_in part.entry) (variables_in seat.variables) entries) }
     ensures line { IfErr (result.1) (λ stopped. (part.entry.first ≤ stopped.line)
         × (stopped.line ≤ part.entry.first + length (lines_in part.entry))) }
     ensures stopped { IfErr (result.1) (λ stopped. (entries : Entries) × (C.receipts (result.0)
         ≡ C.receipts pass ++ entries)
         × IsSeatStopped (λ fault. (last : C.Pass) × C.gives_fault last fault)
-        part.entry.first (lines_in part.entry) (words_in seat.words) entries stopped) }
+        part.entry.first (lines_in part.entry) (variables_in seat.variables) entries stopped) }
     ensures seat { C.seat_of (result.0) ≡ C.seat_of pass }
 {
     let mut seat = seat;

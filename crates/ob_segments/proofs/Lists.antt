@@ -5,7 +5,7 @@ use Rattle.std.proofs.lemmas.List.{map-append, take-append-drop, get_or-map, len
 use Rattle.std.specs.List.{HoldsAt}
 use Rattle.std.proofs.lemmas.Option.{slice_get_past, slice_get-get_or}
 use Rattle.ob_model.specs.Run.{Entry}
-use Rattle.ob_journal.specs.Segments.{Segment, joined, most_entries, most_sealed, AreSealed}
+use Rattle.ob_entries.specs.Segments.{Segment, joined, most_entries, most_sealed, AreSealed}
 use Rattle.ob_segments.specs.Journal.{Placed, IsKept, whole, seen}
 
 pub joined-append : {K : Type 0} (xs ys : List (Segment K)) → joined (xs ++ ys) ≡ joined xs ++ joined ys

@@ -3,7 +3,7 @@
 -- Source: this profile.
 use Rattle.std.specs.Prelude.{◌≡◌, ℕ, ◌≤◌, ◌<◌, ◌+◌, ◌^◌, List, [], ◌∷◌, ◌++◌, length, take, drop}
 use Rattle.ob_model.specs.Run.{Entry}
-use Rattle.ob_journal.specs.Segments.{Segment, joined, open_after, most_sealed, AreSealed}
+use Rattle.ob_entries.specs.Segments.{Segment, joined, open_after, most_sealed, AreSealed}
 
 -- the sealed segments, and the entries of the open one
 pub record Journal (K : Type 0) : Type 0 where

@@ -5,11 +5,11 @@ ghost use Rattle.std.specs.Arc.{arc_value};
 ghost use Rattle.std.specs.Bool.{OnFalse, OnTrue};
 ghost use Rattle.ob_base.specs.declared.fault.Fault.TheVariants.{Memory, Refused};
 ghost use Rattle.ob_base.specs.declared.status.Status.TheVariants.{InvalidParameter, InsufficientResources};
-ghost use Rattle.ob_journal.specs.Segments.{joined, most_entries, most_sealed, AreSealed};
+ghost use Rattle.ob_entries.specs.Segments.{joined, most_entries, most_sealed, AreSealed};
 ghost use Rattle.ob_segments.specs.Journal.{open_segment, whole, with_entry, with_seal};
 
 use ob_base::{Fault, Status};
-use ob_journal::{Entry, Segment};
+use ob_entries::{Entry, Segment};
 use std::alloc::{AllocError, Global};
 use std::marker::Model;
 use std::mem;

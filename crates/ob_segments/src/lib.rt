@@ -7,4 +7,4 @@
 mod journal;
 
 pub use journal::Journal;
-pub use ob_journal::Segment;
+pub use ob_entries::Segment;

@@ -7,8 +7,8 @@ use Rattle.ob_effects.specs.Machine.{Space}
 use Rattle.ob_lines.specs.declared.form.Form.{Form}
 use Rattle.ob_lines.specs.declared.form.Form.TheVariants.{Nothing, Stat, Asks, Waits}
 use Rattle.ob_lines.specs.Script.{HasForm}
-use Rattle.ob_requests.specs.Words.{Words}
-use Rattle.ob_shell.specs.Running.{outcome_text}
+use Rattle.ob_requests.specs.Variables.{Variables}
+use Rattle.ob_scripts.specs.Running.{outcome_text}
 use Rattle.ob_session.specs.Session.{IsAnswer}
 
 -- an outcome of another kind is answered by its text
@@ -22,15 +22,15 @@ other_answer number line outcome.NoLine other = absurd (other refl)
 other_answer number line outcome.NoMemory other = refl
 
 -- of no script line is the outcome `NoLine`
-no_line_form : (form : Option (Form (List ℕ))) (words words' : Words) (s s' : Space) → IsDone form words s outcome.NoLine words' s' → form ≡ None
-no_line_form None words words' s s' done = refl
-no_line_form (Some Nothing) words words' s s' (none, same_words, same) = cc
-no_line_form (Some Stat) words words' s s' (none, same_words, same) = cc
-no_line_form (Some (Asks process request)) words words' s s' done = absurd done
-no_line_form (Some (Waits process pending)) words words' s s' done = absurd done
+no_line_form : (form : Option (Form (List ℕ))) (variables variables' : Variables) (s s' : Space) → IsDone form variables s outcome.NoLine variables' s' → form ≡ None
+no_line_form None variables variables' s s' done = refl
+no_line_form (Some Nothing) variables variables' s s' (none, same_variables, same) = cc
+no_line_form (Some Stat) variables variables' s s' (none, same_variables, same) = cc
+no_line_form (Some (Asks process request)) variables variables' s s' done = absurd done
+no_line_form (Some (Waits process pending)) variables variables' s s' done = absurd done
 
-pub unformed : (form : Option (Form (List ℕ))) (line : List ℕ) (words words' : Words) (s s' : Space) (o : LineOutcome) → HasForm line form
-    → IsDone form words s o words' s' → o ≡ outcome.NoLine → HasForm line None
-unformed form line words words' s s' o formed done is =
-    let no_line : IsDone form words s outcome.NoLine words' s' = subst (λ x. IsDone form words s x words' s') is done in
-    subst (HasForm line) (no_line_form form words words' s s' no_line) formed
+pub unformed : (form : Option (Form (List ℕ))) (line : List ℕ) (variables variables' : Variables) (s s' : Space) (o : LineOutcome) → HasForm line form
+    → IsDone form variables s o variables' s' → o ≡ outcome.NoLine → HasForm line None
+unformed form line variables variables' s s' o formed done is =
+    let no_line : IsDone form variables s outcome.NoLine variables' s' = subst (λ x. IsDone form variables s x variables' s') is done in
+    subst (HasForm line) (no_line_form form variables variables' s s' no_line) formed

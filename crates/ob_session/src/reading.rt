@@ -3,7 +3,7 @@
 ghost use Rattle.std.specs.Prelude.{IfErr, IfOk};
 ghost use Rattle.ob_session.specs.Taken.{IsUnread, TakesLine};
 
-use ob_streams::{ShellFault, Unread};
+use ob_output::{ShellFault, Unread};
 use std::io::{BufRead, ErrorKind};
 
 /// Reads the reader's next line into `line`, without its LF; `false` if the reader is at its end. The fault is `Memory` where the line found no

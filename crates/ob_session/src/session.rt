@@ -2,19 +2,18 @@
 
 ghost use Rattle.std.specs.Prelude.{◌≡◌, ◌≤◌, ◌<◌, ◌^◌, [], ℕ, List, None, vec_capacity, IfErr, IfOk};
 ghost use Rattle.std.specs.Io.KnownBytes.{Appends};
-ghost use Rattle.ob_streams.specs.Writing.{AppendsFront};
+ghost use Rattle.ob_output.specs.Writing.{AppendsFront};
 ghost use Rattle.ob_effects.specs.declared.outcome.LineOutcome.TheVariants as outcomes;
 ghost use Rattle.ob_lines.specs.Script.{HasForm};
 ghost use Rattle.ob_output.specs.Gathering.{Gathers};
-ghost use Rattle.ob_effects.specs.Kept.{IsFirst, IsSession, space_of, words_of};
+ghost use Rattle.ob_effects.specs.Kept.{IsFirst, IsSession, space_of, variables_of};
 ghost use Rattle.ob_session.specs.Session.{HasAnswered, IsAnswer, IsConversation, IsConversationCut, IsTurn, IsTurnCut};
 
 use crate::reading::take_line;
 use ob_effects::{LineOutcome, Session};
 use ob_lines::misfit_of;
-use ob_output::push_misfit_line;
-use ob_shell::{perform_line, write_outcome};
-use ob_streams::{ShellFault, Unwritten, write_out};
+use ob_output::{ShellFault, Unwritten, push_misfit_line, write_out};
+use ob_scripts::{perform_line, write_outcome};
 use std::alloc::Global;
 use std::io::{BufRead, Write};
 
@@ -55,9 +54,9 @@ fn converse<R: BufRead, W: Write>(
     requires first { IsFirst session.old }
     requires kept { IsSession session.old }
     ensures kept { IsSession session.new }
-    ensures played { IfOk result (λ _. HasAnswered (words_of session.old) (space_of session.old)
+    ensures played { IfOk result (λ _. HasAnswered (variables_of session.old) (space_of session.old)
         (R.remaining reader.old) (W.contents writer.old) (W.contents writer.new)
-        (words_of session.new) (space_of session.new)) }
+        (variables_of session.new) (space_of session.new)) }
     ensures cut { IfErr result (λ fault. IsConversationCut fault (R.remaining reader.old)
         (W.contents writer.old) (W.contents writer.new)) }
 {
@@ -92,11 +91,11 @@ pub fn answer_next<R: BufRead, W: Write>(
     ensures empty { IfOk result (λ _. block.new.items ≡ []) }
     ensures capacity { vec_capacity block.old ≤ vec_capacity block.new }
     ensures turn { IfOk result (λ there. IsTurn there number (R.remaining reader.old)
-        (R.remaining reader.new) (words_of session.old) (space_of session.old)
-        (W.contents writer.old) (W.contents writer.new) (words_of session.new)
+        (R.remaining reader.new) (variables_of session.old) (space_of session.old)
+        (W.contents writer.old) (W.contents writer.new) (variables_of session.new)
         (space_of session.new)) }
     ensures cut { IfErr result (λ fault. IsTurnCut fault number (R.remaining reader.old)
-        (words_of session.old) (space_of session.old) (W.contents writer.old)
+        (variables_of session.old) (space_of session.old) (W.contents writer.old)
         (W.contents writer.new)) }
 {
     if !take_line(reader, line)? {

@@ -10,7 +10,7 @@ use Rattle.ob_model.specs.declared.reply.Event.{Event}
 use Rattle.ob_model.specs.declared.reply.Event.TheVariants.{Resume, Abandon}
 use Rattle.ob_model.specs.declared.reply.ParseRun.{ParseRun}
 use Rattle.ob_model.specs.declared.reply.Reply.{Reply}
-use Rattle.ob_model.specs.declared.state.Pending.{Pending as Waiting}
+use Rattle.ob_model.specs.declared.state.PendingOpen.{PendingOpen as Waiting}
 use Rattle.ob_model.specs.Parses.{Abandons}
 use Rattle.ob_model.specs.PendingOpens.{pending_of}
 use Rattle.ob_model.specs.Procedures.{Procedures}
@@ -20,8 +20,8 @@ use Rattle.ob_model.specs.State.{State}
 use Rattle.ob_model.specs.Step.{Step}
 use Rattle.ob_types.specs.Parse.{HasRun, ToRun, asked_of}
 use Rattle.ob_opens.specs.Waiting.{IsParseOf}
-use Rattle.ob_journal.specs.Segments.{Segment, AreSealed}
-use Rattle.ob_settled.specs.declared.compared.Mismatch.{Mismatch}
+use Rattle.ob_entries.specs.Segments.{Segment, AreSealed}
+use Rattle.ob_agreement.specs.declared.compared.Mismatch.{Mismatch}
 use Rattle.ob_locked.specs.declared.started.Started.{Started}
 use Rattle.ob_locked.specs.declared.started.Started.TheVariants as started
 use Rattle.ob_segments.specs.Journal.{open_segment, whole}
@@ -32,7 +32,7 @@ use Rattle.ob_locked.specs.Locked.{History}
 use Rattle.ob_locked.specs.Places.{places_for}
 use Rattle.ob_locked.specs.Steps.{IsFull, IsMade, IsNotAdmitted, IsNotResumed, IsNotSealed, MaySeal}
 use Rattle.ob_locked.specs.Passed.{Passed, IsKnown}
-use Rattle.ob_settled.specs.Settled.{IsMismatch, IsSettled}
+use Rattle.ob_agreement.specs.Agreement.{IsMismatch, Agrees}
 use Rattle.ob_shared.specs.Chains.{IsChain, IsGivenUpAt, IsOnTheWay, IsRunToReply}
 use Rattle.ob_shared.specs.Told.{IsCutOff, IsGivenUpAfter, IsNotStarted, IsOfRun, IsSealed, IsTold, IsUnsealed}
 
@@ -167,9 +167,9 @@ module _ {K T F I : Type 0} (g : Procedures K T F I) where
       go (Some x) ends = ends.0
 
 -- the same facts of equal journals, passes and counts
-pub settled_as : {K : Type 0} (j j' : List (Entry K)) (ps ps' : List (Passed K)) (n n' : ℕ) → j ≡ j' → ps ≡ ps' → n ≡ n' → IsSettled j ps n → IsSettled j' ps' n'
+pub settled_as : {K : Type 0} (j j' : List (Entry K)) (ps ps' : List (Passed K)) (n n' : ℕ) → j ≡ j' → ps ≡ ps' → n ≡ n' → Agrees j ps n → Agrees j' ps' n'
 settled_as j j' ps ps' n n' same_j same_ps same_n settled =
-    subst (λ k. IsSettled j' ps' k) same_n (subst (λ qs. IsSettled j' qs n) same_ps (subst (λ l. IsSettled l ps n) same_j settled))
+    subst (λ k. Agrees j' ps' k) same_n (subst (λ qs. Agrees j' qs n) same_ps (subst (λ l. Agrees l ps n) same_j settled))
 
 pub mismatch_as : {K : Type 0} (j : List (Entry K)) (ps ps' : List (Passed K)) (n n' : ℕ) (m : Mismatch) → ps ≡ ps' → n ≡ n' → IsMismatch j ps n m → IsMismatch j ps' n' m
 mismatch_as j ps ps' n n' m same_ps same_n told = subst (λ k. IsMismatch j ps' k m) same_n (subst (λ qs. IsMismatch j qs n m) same_ps told)

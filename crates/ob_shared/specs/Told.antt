@@ -9,7 +9,7 @@ use Rattle.ob_model.specs.declared.reply.Event.TheVariants.{Abandon}
 use Rattle.ob_model.specs.Procedures.{Procedures}
 use Rattle.ob_model.specs.Refusals.{answers}
 use Rattle.ob_model.specs.Run.{Run}
-use Rattle.ob_journal.specs.Segments.{Segment, AreSealed}
+use Rattle.ob_entries.specs.Segments.{Segment, AreSealed}
 use Rattle.ob_segments.specs.Journal.{open_segment, whole}
 use Rattle.ob_types.specs.Parse.{HasRun, ToRun, asked_of}
 use Rattle.ob_opens.specs.Waiting.{IsAwaited, IsParseOf}
@@ -20,8 +20,8 @@ use Rattle.ob_locked.specs.Answers.{answer_in, brought_in, run_in, IfWaits}
 use Rattle.ob_locked.specs.Locked.{History}
 use Rattle.ob_locked.specs.Passed.{Passed, IsKnown}
 use Rattle.ob_locked.specs.Places.{places_for}
-use Rattle.ob_settled.specs.Settled.{IsMismatch}
-use Rattle.ob_settled.specs.declared.compared.Mismatch.{Mismatch}
+use Rattle.ob_agreement.specs.Agreement.{IsMismatch}
+use Rattle.ob_agreement.specs.declared.compared.Mismatch.{Mismatch}
 use Rattle.ob_locked.specs.Steps.{IsMade, IsNotAdmitted, IsNotResumed, IsNotSealed, MaySeal}
 
 -- A step is the last one of a run: there is a run that has the pass's earlier last receipt at its number; the machine makes the step in

@@ -4,21 +4,25 @@
 //! of the step that was made: [`Shared::start`] begins a command, [`Shared::resume`] brings the parse that an open waits for,
 //! [`Shared::abandon`] gives such an open up, and [`Shared::open_with`] runs a command to its reply. [`Shared::seal`] seals a segment of
 //! the journal, so that it can be written out while others go on. Each of these takes the lock for
-//! one step alone; a parse is run between two steps, with nothing held. Once all callers have ended, [`Shared::close`] gives back
+//! one step alone; a parse is run between two steps, with nothing held. [`Shared::publish`] has the [`Publishing`] under the lock show others
+//! the namespace as it is. Once all callers have ended, [`Shared::close`] gives back
 //! the namespace and the journal, of which each pass has its own steps as receipts.
 //!
-//! The state under the lock, its steps, and the check of passes against the journal come from `ob_locked` and `ob_settled`, and are exported
+//! The state under the lock, its steps, and the check of passes against the journal come from `ob_locked` and `ob_agreement`, and are exported
 //! again here.
 #![tactic(auto)]
 
+mod guarded;
+mod publishing;
 mod shared;
 mod to_reply;
 mod under;
 
+pub use ob_agreement::{Mismatch, agree};
 pub use ob_locked::{
     Asked, Journal, Locked, Parsed, Parsing, Pass, Pending, Prepared, Segment, Started,
     open_locked, seal_step, step,
 };
-pub use ob_settled::{Mismatch, settle};
+pub use publishing::Publishing;
 pub use shared::{Ended, Shared, open_shared};
 pub use to_reply::Gate;

@@ -2,23 +2,25 @@
 
 ghost use Rattle.std.specs.Prelude.{◌≡◌, ◌≤◌, ◌<◌, ◌++◌, ◌⊎◌, Err, IfOk, IfErr, OnErr, length, map};
 ghost use Rattle.std.specs.Arc.{arc_value};
-ghost use Rattle.ob_journal.specs.Segments.{joined, most_sealed, open_after, AreSealed};
+ghost use Rattle.ob_entries.specs.Segments.{joined, most_sealed, open_after, AreSealed};
 ghost use Rattle.ob_base.specs.declared.Fault.TheVariants.{Memory, Refused};
 ghost use Rattle.ob_base.specs.declared.status.Status.TheVariants.{InvalidParameter};
 ghost use Rattle.ob_model.specs.declared.reply.Event.TheVariants.{Start, Resume};
 ghost use Rattle.ob_model.specs.Run.{Run};
-ghost use Rattle.ob_types.specs.Brought.{run_of_end};
+ghost use Rattle.ob_types.specs.Pending.{run_of_end};
 ghost use Rattle.ob_types.specs.Parse.{asked_of};
 ghost use Rattle.ob_locked.specs.Opened.{fresh_passes, most_seats};
-ghost use Rattle.ob_settled.specs.Settled.{IsSettled};
+ghost use Rattle.ob_agreement.specs.Agreement.{Agrees};
+ghost use Rattle.ob_shared.specs.Later.{IsPublished, IsUnpublished};
 ghost use Rattle.ob_shared.specs.Told.{IsCutOff, IsGivenUp, IsMismatchOfRun, IsNotBrought, IsNotStarted, IsSealed, IsTold, IsUnsealed};
 
-use crate::under::{abandon_under, bring_under, resume_under, seal_under, start_under};
+use crate::Publishing;
+use crate::guarded::Guarded;
+use ob_agreement::{Mismatch, agree};
 use ob_base::{Fault, Proc};
 use ob_core::{Core, HandleTable};
 use ob_locked::{Locked, Parsed, Pass, Pending, Prepared, Segment, Started, open_locked};
 use ob_model::Command;
-use ob_settled::{Mismatch, settle};
 use ob_types::TypeSet;
 use std::alloc::Global;
 use std::marker::Model;
@@ -26,16 +28,16 @@ use std::sync::ledger::{Blank, Ledger};
 use std::sync::{Arc, Mutex, Wait};
 
 /// A namespace that threads share. `T` is the set of types, `H` the handle table of each process, and `L` the ledger by which the
-/// steps of all passes are counted. Any number of threads may use it at once. Each call waits for the lock, and holds it for one step.
+/// steps of all passes are counted; `P` publishes it, or nothing where it is `()`. Any number of threads may use it at once. Each call waits for the lock, and holds it for one step.
 /// Contracts see how many seats it has. (this profile)
 #[derive(Drop)]
-pub struct Shared<T: TypeSet, H: HandleTable, L: Ledger> {
-    lock: Mutex<Locked<T, H, L>>,
+pub struct Shared<T: TypeSet, H: HandleTable, L: Ledger, P: Publishing<T> = ()> {
+    lock: Mutex<Guarded<T, H, L, P>>,
     seats: u32,
     alloc: Global,
 }
 
-impl<T: TypeSet, H: HandleTable, L: Ledger> Model for Shared<T, H, L> {
+impl<T: TypeSet, H: HandleTable, L: Ledger, P: Publishing<T>> Model for Shared<T, H, L, P> {
     ghost use Rattle.std.specs.Prelude.{ℕ, ◌≤◌};
     ghost use Rattle.ob_locked.specs.Opened.{most_seats};
 
@@ -77,15 +79,29 @@ pub fn open_shared<T: TypeSet, H: HandleTable, L: Ledger>(
     ensures memory { (0 < seats) → seats ≤ most_seats → IfErr result (λ fault. fault ≡ Memory) }
 {
     let (locked, passes) = open_locked(alloc, blank, types, seats)?;
-    let shared = Shared {
-        lock: Mutex::new(locked),
-        seats,
-        alloc,
-    };
-    Ok((shared, passes))
+    Ok((Shared::new(alloc, locked, seats, ()), passes))
 }
 
-impl<T: TypeSet, H: HandleTable, L: Ledger> Shared<T, H, L> {
+impl<T: TypeSet, H: HandleTable, L: Ledger, P: Publishing<T>> Shared<T, H, L, P> {
+    /// Shares a namespace of so many seats, at most 1,024, with a publisher that has knowledge of its history. Takes no memory. (this
+    /// profile)
+    pub fn new(
+        alloc: Global,
+        locked: Locked<T, H, L>,
+        seats: u32,
+        publisher: P,
+    ) -> Shared<T, H, L, P>
+        requires seats { seats ≤ most_seats }
+        requires kept { P.keeps publisher locked }
+        ensures { result ≡ seats }
+    {
+        Shared {
+            lock: Mutex::new(Guarded::new(locked, publisher)),
+            seats,
+            alloc,
+        }
+    }
+
     /// How many seats it has: 1 to 1,024. (this profile)
     pub fn seats(&self) -> u32
         ensures { result ≡ self.now }
@@ -120,14 +136,7 @@ impl<T: TypeSet, H: HandleTable, L: Ledger> Shared<T, H, L> {
         // (before the lock is taken, which is so held for the step alone)
         let prepared = Prepared::new(self.alloc, command);
         let mut locked = self.lock.lock(rt);
-        let started = start_under(
-            self.alloc,
-            &mut locked,
-            &mut pass,
-            process,
-            command,
-            prepared,
-        );
+        let started = locked.start(self.alloc, &mut pass, process, command, prepared);
         (pass, started)
     }
 
@@ -152,7 +161,7 @@ impl<T: TypeSet, H: HandleTable, L: Ledger> Shared<T, H, L> {
     {
         let mut pass = pass;
         let mut locked = self.lock.lock(rt);
-        let resumed = resume_under(self.alloc, &mut locked, &mut pass, parsed);
+        let resumed = locked.resume(self.alloc, &mut pass, parsed);
         (pass, resumed)
     }
 
@@ -168,7 +177,7 @@ impl<T: TypeSet, H: HandleTable, L: Ledger> Shared<T, H, L> {
     {
         let mut pass = pass;
         let mut locked = self.lock.lock(rt);
-        abandon_under(self.alloc, &mut locked, &mut pass, pending);
+        locked.abandon(self.alloc, &mut pass, pending);
         pass
     }
 
@@ -189,7 +198,7 @@ impl<T: TypeSet, H: HandleTable, L: Ledger> Shared<T, H, L> {
     {
         let mut pass = pass;
         let mut locked = self.lock.lock(rt);
-        let brought = bring_under(self.alloc, &mut locked, &mut pass, parsed);
+        let brought = locked.bring(self.alloc, &mut pass, parsed);
         (pass, brought)
     }
 
@@ -209,8 +218,28 @@ impl<T: TypeSet, H: HandleTable, L: Ledger> Shared<T, H, L> {
         ensures fault { IfErr (result.1) (λ fault. IsUnsealed T.procedures fault) }
     {
         let mut locked = self.lock.lock(rt);
-        let sealed = seal_under(self.alloc, &mut locked);
+        let sealed = locked.seal(self.alloc);
         (pass, sealed)
+    }
+
+    /// Publishes the namespace as it is, so that viewers see it. A publish isn't a step: it adds no entry, and returns the pass as it is.
+    ///
+    /// At a fault viewers see what they saw. It is `InvalidParameter` if the pass is a stranger's, and if nothing is published here; then
+    /// it is the publisher's. (this profile)
+    pub fn publish<R: Wait>(
+        &self,
+        rt: &R,
+        pass: Pass<T::Kind, L>,
+    ) -> (Pass<T::Kind, L>, Result<P::Published, Fault>)
+        ensures pass { result.0 ≡ pass }
+        ensures published { IfOk (result.1) (λ published. (publisher : P)
+            × IsPublished T.procedures pass (P.shows publisher published)) }
+        ensures fault { IfErr (result.1) (λ fault.
+            IsUnpublished T.procedures pass fault (P.faults fault)) }
+    {
+        let mut locked = self.lock.lock(rt);
+        let published = locked.publish(&pass);
+        (pass, published)
     }
 
     /// Closes the namespace with the passes of all seats, and returns it with its journal, which is a run to the namespace's state. The journal
@@ -226,7 +255,7 @@ impl<T: TypeSet, H: HandleTable, L: Ledger> Shared<T, H, L> {
         ensures open { IfOk result (λ ended. ended.journal
             ≡ open_after (map arc_value ended.sealed.items) ended.journal.entries) }
         ensures settled { IfOk result (λ ended.
-            IsSettled (joined (map arc_value ended.sealed.items)
+            Agrees (joined (map arc_value ended.sealed.items)
             ++ ended.journal.entries) passes.items self) }
         ensures mismatch { IfErr result (λ mismatch.
             IsMismatchOfRun T.procedures passes.items self mismatch) }
@@ -236,9 +265,9 @@ impl<T: TypeSet, H: HandleTable, L: Ledger> Shared<T, H, L> {
             seats,
             alloc: _,
         } = self;
-        let locked = lock.into_inner();
+        let locked = lock.into_inner().into_locked();
         locked.is_kept();
-        match settle(&locked, seats, passes.as_slice()) {
+        match agree(&locked, seats, passes.as_slice()) {
             Ok(()) => {
                 let (core, sealed, journal) = locked.into_parts();
                 Ok(Ended {

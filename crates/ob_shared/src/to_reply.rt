@@ -6,7 +6,7 @@ ghost use Rattle.ob_model.specs.declared.reply.Event.TheVariants.{Start};
 ghost use Rattle.ob_locked.specs.Passed.{Passed};
 ghost use Rattle.ob_shared.specs.Chains.{IsCutShort, IsGivenUpAt, IsOnTheWay, IsRunToReply};
 
-use crate::Shared;
+use crate::{Publishing, Shared};
 use ob_base::{Fault, Proc};
 use ob_core::HandleTable;
 use ob_locked::{Parsing, Pass, Started};
@@ -22,7 +22,7 @@ pub trait Gate {
     fn between(&self);
 }
 
-impl<T: TypeSet, H: HandleTable, L: Ledger> Shared<T, H, L> {
+impl<T: TypeSet, H: HandleTable, L: Ledger, P: Publishing<T>> Shared<T, H, L, P> {
     /// Runs a command to its reply, and returns the pass with the receipts of its steps. While its open is pending, it calls the gate, runs
     /// the parse and brings it.
     ///

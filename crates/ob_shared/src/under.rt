@@ -2,8 +2,9 @@
 
 ghost use Rattle.std.specs.Prelude.{◌≡◌, IfOk, IfErr, OnErr};
 ghost use Rattle.ob_model.specs.declared.reply.Event.TheVariants.{Start, Resume};
-ghost use Rattle.ob_types.specs.Brought.{run_of_end};
+ghost use Rattle.ob_types.specs.Pending.{run_of_end};
 ghost use Rattle.ob_types.specs.Parse.{asked_of};
+ghost use Rattle.ob_shared.specs.Later.{IsLater, IsPublished, IsUnpublished};
 ghost use Rattle.ob_shared.specs.Told.{IsCutOff, IsGivenUp, IsGivenUpAfter, IsNotBrought, IsNotStarted, IsSealed, IsTold, IsUnsealed};
 ghost use Rattle.std.specs.Arc.{arc_value};
 
@@ -32,6 +33,7 @@ pub(crate) fn start_under<T: TypeSet, H: HandleTable, L: Ledger>(
         IsTold T.procedures pass.old (Start process command.now) started pass.new) }
     ensures unmade { OnErr result (pass.new ≡ pass.old) }
     ensures fault { IfErr result (λ fault. IsNotStarted T.procedures pass.old fault) }
+    ensures later { IsLater T.procedures locked.old locked.new }
 {
     locked.is_kept();
     locked.start(alloc, pass, process, command, prepared)
@@ -51,6 +53,7 @@ pub(crate) fn resume_under<'a, T: TypeSet, H: HandleTable, L: Ledger>(
     ensures fault { IfErr result (λ back.
         IsNotBrought T.procedures pass.old (asked_of parsed) (back.0)) }
     ensures back { IfErr result (λ back. back.1 ≡ parsed) }
+    ensures later { IsLater T.procedures locked.old locked.new }
 {
     locked.is_kept();
     let asked: Asked<'a, T> = Asked::Resume(parsed);
@@ -70,6 +73,7 @@ pub(crate) fn abandon_under<'a, T: TypeSet, H: HandleTable, L: Ledger>(
 )
     ensures given_up { IsGivenUp T.procedures pass.old pending pass.new }
     ensures after { IsGivenUpAfter T.procedures locked.old pass.old pending pass.new }
+    ensures later { IsLater T.procedures locked.old locked.new }
 {
     locked.is_kept();
     let asked: Asked<'a, T> = Asked::Abandon(pending);
@@ -93,6 +97,7 @@ pub(crate) fn bring_under<'a, T: TypeSet, H: HandleTable, L: Ledger>(
         (run_of_end parsed.outcome)) started pass.new) }
     ensures cut_off { IfErr result (λ fault.
         IsCutOff T.procedures pass.old parsed fault pass.new) }
+    ensures later { IsLater T.procedures locked.old locked.new }
 {
     locked.is_kept();
     let asked: Asked<'a, T> = Asked::Resume(parsed);
@@ -113,6 +118,7 @@ pub(crate) fn seal_under<T: TypeSet, H: HandleTable, L: Ledger>(
 ) -> Result<Arc<Segment<T::Kind>>, Fault>
     ensures sealed { IfOk result (λ segment. IsSealed T.procedures (arc_value segment)) }
     ensures fault { IfErr result (λ fault. IsUnsealed T.procedures fault) }
+    ensures later { IsLater T.procedures locked.old locked.new }
 {
     locked.is_kept();
     seal_step(alloc, locked)

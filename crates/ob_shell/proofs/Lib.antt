@@ -1,7 +1,5 @@
-pub mod Told
-pub mod Listed
-pub mod Finals
-pub mod Totals
-pub mod Behind
-pub mod Offsets
-pub mod AlikeShown
+pub mod Served
+pub mod Faults
+pub mod Flags
+pub mod Tasks
+pub mod Words

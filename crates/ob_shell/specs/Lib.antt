@@ -1,4 +1,6 @@
-pub mod Shown
-pub mod Running
-pub mod Offsets
-pub mod Alike
+pub mod End
+pub mod Opening
+pub mod Perform
+pub mod Refuse
+pub mod Serve
+pub mod Plan

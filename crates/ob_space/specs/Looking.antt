@@ -1,6 +1,6 @@
 -- Lookups of the core: what they rest on, and what their ends are good for.
 use Rattle.std.specs.Prelude.{◌≡◌, ℕ, true, false, List, Option, MatchOption}
-use Rattle.ob_model.specs.declared.state.Pending.{Pending}
+use Rattle.ob_model.specs.declared.state.PendingOpen.{PendingOpen}
 use Rattle.ob_model.specs.State.{State}
 use Rattle.ob_model.specs.PendingOpens.{face_of}
 use Rattle.ob_model.specs.Procedures.{Procedures}
@@ -15,7 +15,7 @@ module _ {K T F I : Type 0} where
   IsRoot s root = MatchOption root (Unit {0}) (Stands s)
 
   -- the state with these opens pending in place of its own
-  abbrev pub with_these_opens : State K T F I → List (Pending K) → State K T F I
+  abbrev pub with_these_opens : State K T F I → List (PendingOpen K) → State K T F I
   with_these_opens s opens = record s { pending = opens }
 
 module _ {K T F I : Type 0} (g : Procedures K T F I) where

@@ -3,7 +3,7 @@ use Rattle.std.specs.Prelude.{ℕ, List, []}
 use Rattle.ob_model.specs.declared.state.Object.{Object}
 use Rattle.ob_model.specs.declared.state.Row.{Row}
 use Rattle.ob_model.specs.declared.state.Held.{Held}
-use Rattle.ob_model.specs.declared.state.Pending.{Pending}
+use Rattle.ob_model.specs.declared.state.PendingOpen.{PendingOpen}
 use Rattle.ob_model.specs.State.{State}
 use Rattle.ob_objects.specs.Store.{Entries, objects_of, rows_of}
 use Rattle.ob_processes.specs.Running.{Running}
@@ -15,7 +15,7 @@ pub record Parts (K T F I : Type 0) : Type 0 where
   pub set : T
   pub store : Entries F I
   pub processes : Running
-  pub pending : List (Pending K)
+  pub pending : List (PendingOpen K)
   pub next_id : ℕ
   pub next_stamp : ℕ
   pub next_process : ℕ
@@ -72,7 +72,7 @@ listed objects rows running = holding tt objects rows running
 
 -- a state with these objects, rows, processes with their handles, and pending opens, for what reads nothing
 -- else
-abbrev pub with_opens : {K F I : Type 0} → List (Object F I) → List Row → Running → List (Pending K) → State K (Unit {0}) F I
+abbrev pub with_opens : {K F I : Type 0} → List (Object F I) → List Row → Running → List (PendingOpen K) → State K (Unit {0}) F I
 with_opens objects rows running pending = record (holding tt objects rows running) { pending = pending }
 
 -- no process runs

@@ -2,7 +2,7 @@
 
 ghost use Rattle.std.specs.Prelude.{◌≡◌, ◌<◌, ℕ, List, IfOk, IfErr, OnErr, None, Some};
 ghost use Rattle.ob_model.specs.Looks as machine;
-ghost use Rattle.ob_model.specs.declared.state.Pending.{Pending};
+ghost use Rattle.ob_model.specs.declared.state.PendingOpen.{PendingOpen};
 ghost use Rattle.ob_model.specs.Parses.{LooksAgain};
 ghost use Rattle.ob_model.specs.PendingOpens.{without_pending};
 ghost use Rattle.ob_model.specs.Sound.{IsSound};
@@ -105,12 +105,12 @@ fn look_with<'a, T: TypeSet, H: HandleTable>(
 ) -> Result<Look<'a>, AllocError>
     requires sound { IsSound space.old }
     requires root { IsRoot space.old root }
-    ensures end { IfOk result (λ look. (opens : List (Pending T.Kind)) →
+    ensures end { IfOk result (λ look. (opens : List (PendingOpen T.Kind)) →
         machine.LooksUp T.procedures
         (with_these_opens space.old opens) process mode left root name.entry
         (look_of look)) }
     ensures usable { IfOk result (λ look. IsUsable T.procedures space.old mode (look_of look)) }
-    ensures wants { OnErr result ((opens : List (Pending T.Kind)) (end : machine.Look) →
+    ensures wants { OnErr result ((opens : List (PendingOpen T.Kind)) (end : machine.Look) →
         machine.LooksUp T.procedures
         (with_these_opens space.old opens) process mode 0 root name.entry end
         → MayWantMemory end) }

@@ -8,4 +8,4 @@ mod lines;
 mod stage;
 
 pub use lines::{number_of, sides_of, word_of};
-pub use stage::{End, Listing, Stage};
+pub use stage::{Listing, Stage, StageEnd};

@@ -3,7 +3,7 @@
 use crate::commands::command_of;
 use crate::lines::{number_of, word_of};
 use ob_base::{Fault, Handle, ObjId, Proc, Status};
-use ob_core::{Brought, Command, Core, Given, HandleTable, Referent, RemovedName, Reply, Started};
+use ob_core::{Command, Core, Given, HandleTable, Pending, Referent, RemovedName, Reply, Started};
 use ob_plain::{Call, Recorder, Refusing};
 use ob_types::TypeSet;
 use std::alloc::Global;
@@ -25,7 +25,7 @@ impl<T: TypeSet> Listing for Refusing<Recorder<T>> {
 
 /// The outcome of a step.
 #[derive(Drop)]
-pub enum End {
+pub enum StageEnd {
     /// It was replied to.
     Done(Reply),
     /// Its open waits for the parse at hand.
@@ -46,7 +46,7 @@ struct Space<T: Listing, H: HandleTable> {
     /// The first and the other kind of lines.
     kinds: (T::Kind, T::Kind),
     /// The outcome of the last step.
-    end: End,
+    end: StageEnd,
     /// The handle that each line's step was given at last, or 0.
     given: Vec<Handle>,
 }
@@ -54,13 +54,13 @@ struct Space<T: Listing, H: HandleTable> {
 /// A namespace, and the parse at hand.
 pub struct Stage<T: Listing, H: HandleTable> {
     space: Space<T, H>,
-    parse: Option<Brought<T>>,
+    parse: Option<Pending<T>>,
 }
 
 /// Gives a parse up, where there is one; whether its open did wait.
 fn give_up<T: Listing, H: HandleTable>(
     core: &mut Core<T, H>,
-    parse: Option<Brought<T>>,
+    parse: Option<Pending<T>>,
 ) -> Option<bool> {
     match parse {
         Some(parse) => Some(core.abandon(parse)),
@@ -78,7 +78,7 @@ impl<T: Listing, H: HandleTable> Stage<T, H> {
             alloc,
             core,
             kinds,
-            end: End::Unmade,
+            end: StageEnd::Unmade,
             given: Vec::new(alloc),
         };
         Ok(Stage { space, parse: None })
@@ -95,7 +95,7 @@ impl<T: Listing, H: HandleTable> Stage<T, H> {
     /// Makes the step that a line asks of a process so often; none where it asks for none.
     pub fn make(&mut self, process: Proc, times: u32, line: &str) {
         let handle = self.given_to(word_of(line, 2));
-        self.ends(End::Unmade);
+        self.ends(StageEnd::Unmade);
         if let Some(command) = command_of(self.space.alloc, self.space.kinds, handle, line) {
             self.start(process, times, &command);
             mem::drop(command);
@@ -103,7 +103,7 @@ impl<T: Listing, H: HandleTable> Stage<T, H> {
     }
 
     /// Keeps how a step ended.
-    fn ends(&mut self, end: End) {
+    fn ends(&mut self, end: StageEnd) {
         // (by a call, since the drop of what was is long, and would be proved anew wherever a step ends)
         mem::drop(mem::replace(&mut self.space.end, end));
     }
@@ -113,7 +113,7 @@ impl<T: Listing, H: HandleTable> Stage<T, H> {
         for _ in 0..times {
             match self.space.core.start(process, command) {
                 Ok(started) => self.came(started),
-                Err(_) => self.ends(End::Unmade),
+                Err(_) => self.ends(StageEnd::Unmade),
             }
         }
     }
@@ -121,16 +121,16 @@ impl<T: Listing, H: HandleTable> Stage<T, H> {
     /// Keeps what a step came to.
     fn came(&mut self, started: Started<T>) {
         match started {
-            Started::Done(reply) => self.ends(End::Done(reply)),
+            Started::Done(reply) => self.ends(StageEnd::Done(reply)),
             Started::Parsing(parsing) => {
-                self.ends(End::Waits);
-                self.hold(Brought::Unrun(parsing));
+                self.ends(StageEnd::Waits);
+                self.hold(Pending::Unrun(parsing));
             }
         }
     }
 
     /// Has a parse at hand. Another is given up.
-    fn hold(&mut self, parse: Brought<T>) {
+    fn hold(&mut self, parse: Pending<T>) {
         let other = self.parse.replace(parse);
         give_up(&mut self.space.core, other);
     }
@@ -138,7 +138,7 @@ impl<T: Listing, H: HandleTable> Stage<T, H> {
     /// Runs the parse at hand, where it wasn't run.
     pub fn run(&mut self) {
         match self.parse.take() {
-            Some(Brought::Unrun(parsing)) => self.hold(Brought::Run(parsing.run(self.space.alloc))),
+            Some(Pending::Unrun(parsing)) => self.hold(Pending::Run(parsing.run(self.space.alloc))),
             Some(parse) => self.hold(parse),
             None => {}
         }
@@ -150,8 +150,8 @@ impl<T: Listing, H: HandleTable> Stage<T, H> {
             match self.space.core.resume(parse.into_parsed()) {
                 Ok(started) => self.came(started),
                 Err((fault, parsed)) => {
-                    self.ends(End::Back(fault == Fault::Refused(Status::InvalidParameter)));
-                    self.hold(Brought::Run(parsed));
+                    self.ends(StageEnd::Back(fault == Fault::Refused(Status::InvalidParameter)));
+                    self.hold(Pending::Run(parsed));
                 }
             }
         }
@@ -160,7 +160,7 @@ impl<T: Listing, H: HandleTable> Stage<T, H> {
     /// Gives the parse at hand up, where there is one.
     pub fn give_up(&mut self) {
         if let Some(did_wait) = give_up(&mut self.space.core, self.parse.take()) {
-            self.ends(End::GivenUp(did_wait));
+            self.ends(StageEnd::GivenUp(did_wait));
         }
     }
 
@@ -172,14 +172,14 @@ impl<T: Listing, H: HandleTable> Stage<T, H> {
     /// Ends a line: the handle that its step was given is kept.
     pub fn note(&mut self) {
         let handle = match &self.space.end {
-            End::Done(reply) => handle_in(&reply.given),
+            StageEnd::Done(reply) => handle_in(&reply.given),
             _ => Handle(0),
         };
         let _ = self.space.given.push(handle);
     }
 
     /// The outcome of the last step.
-    pub fn end(&self) -> &End {
+    pub fn end(&self) -> &StageEnd {
         &self.space.end
     }
 
@@ -195,8 +195,8 @@ impl<T: Listing, H: HandleTable> Stage<T, H> {
     /// Whether the parse at hand has this ticket and this rest.
     pub fn is_waited_for(&self, ticket: &str, rest: &str) -> bool {
         let (own, text) = match &self.parse {
-            Some(Brought::Unrun(parsing)) => (parsing.ticket(), parsing.rest()),
-            Some(Brought::Run(parsed)) => (parsed.ticket(), parsed.rest()),
+            Some(Pending::Unrun(parsing)) => (parsing.ticket(), parsing.rest()),
+            Some(Pending::Run(parsed)) => (parsed.ticket(), parsed.rest()),
             None => return false,
         };
         own == u64::from(number_of(ticket)) && text == rest.as_bytes()

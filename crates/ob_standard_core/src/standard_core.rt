@@ -2,7 +2,7 @@
 
 ghost use Rattle.std.specs.Prelude.{◌≡◌, List, IsOk, IfOk, OnErr};
 ghost use Rattle.std.specs.Option.{is_some, option_map};
-ghost use Rattle.ob_choices.specs.Choice.{revalued};
+ghost use Rattle.ob_model.specs.Choice.{revalued};
 ghost use Rattle.ob_core.specs.Reached.{IsJustGiven, IsReached};
 ghost use Rattle.ob_model.specs.Grants.{IsFreeValue};
 ghost use Rattle.ob_model.specs.PendingOpens.{pending_of};

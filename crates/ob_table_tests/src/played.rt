@@ -6,7 +6,7 @@ use crate::cases::CASES;
 use ob_base::{Proc, Status};
 use ob_core::{Core, Given, HandleTable, OpenTable, Reply, SlabTable};
 use ob_lines::{Form, Request, change_of, read_line};
-use ob_requests::{Asker, Words, command_of};
+use ob_requests::{Asker, Variables, command_of};
 use ob_runner::run_command;
 use ob_standard::Standard;
 use std::alloc::Global;
@@ -17,7 +17,7 @@ use std::mem;
 struct Player<H: HandleTable> {
     alloc: Global,
     core: Core<Standard, H>,
-    words: Words,
+    variables: Variables,
 }
 
 /// The reply to a request of a process, which changes the variables; none without memory.
@@ -29,11 +29,11 @@ fn reply_to<H: HandleTable>(
     requires { HasTexts (request_seen request.now) }
 {
     let change = change_of(request);
-    let Ok(()) = player.words.make_room(process, change) else {
+    let Ok(()) = player.variables.make_room(process, change) else {
         return None;
     };
     let asker = Asker {
-        words: &player.words,
+        variables: &player.variables,
         process,
     };
     let Ok(command) = command_of(&asker, request) else {
@@ -44,7 +44,7 @@ fn reply_to<H: HandleTable>(
     let Ok(reply) = reply else {
         return None;
     };
-    player.words.apply(process, change, &reply);
+    player.variables.apply(process, change, &reply);
     Some(reply)
 }
 
@@ -52,7 +52,7 @@ fn reply_to<H: HandleTable>(
 fn answer<H: HandleTable>(player: &mut Player<H>, line: &str) -> Option<Reply> {
     match read_line(line.as_bytes()) {
         Some((Some(Form::Asks { process, request }), _)) => {
-            let process = player.words.process_of(process);
+            let process = player.variables.process_of(process);
             reply_to(player, process, &request)
         }
         _ => None,
@@ -127,11 +127,15 @@ fn first_other<'a, H: HandleTable>(player: &mut Player<H>, case: &'a str) -> &'a
 
 /// A namespace in the opening state; none without memory.
 fn player_of<H: HandleTable>(alloc: Global) -> Option<Player<H>> {
-    let Ok(words) = Words::new(alloc) else {
+    let Ok(variables) = Variables::new(alloc) else {
         return None;
     };
     match Core::new(alloc, Standard::new()) {
-        Ok(core) => Some(Player { alloc, core, words }),
+        Ok(core) => Some(Player {
+            alloc,
+            core,
+            variables,
+        }),
         Err(_) => None,
     }
 }

@@ -1,4 +1,4 @@
--- What a seat is told of a step of the shared namespace.
+-- What a seat learns of a step of the shared namespace.
 use Rattle.std.proofs.Common.{◌≡◌, ◌⊎◌, inl, inr, ℕ, Option, None, Some, ap, refl}
 use Rattle.ob_base.specs.declared.status.Status.TheVariants.{Success}
 use Rattle.ob_model.specs.declared.reply.Answer.{Answer}
@@ -8,7 +8,7 @@ use Rattle.ob_model.specs.declared.reply.ParseRun.{ParseRun}
 use Rattle.ob_model.specs.Procedures.{ParseOutcome}
 use Rattle.ob_model.specs.Refusals.{answers}
 use Rattle.ob_runner.specs.Completes.{HasRun}
-use Rattle.ob_types.specs.Brought.{run_of_end}
+use Rattle.ob_types.specs.Pending.{run_of_end}
 use Rattle.ob_standard.specs.Standard.{StandardKind, Standard, StandardFace, StandardInner, standard}
 use Rattle.ob_locked.specs.declared.started.Pending.{Pending}
 use Rattle.ob_locked.specs.declared.started.Started.{Started}
@@ -22,7 +22,7 @@ pub has_run : {F I : Type 0} (outcome : Option (ParseOutcome F I)) → HasRun (r
 has_run None = tt
 has_run (Some end) = tt
 
--- the receipt of a step that was told
+-- the receipt of a step that was reported
 pub received : (p p' : Passed StandardKind) (event event' : Event StandardKind) (answer : Answer) (started : Started Standard StandardKind StandardFace StandardInner)
     → IsTold standard p event started p' → event ≡ event' → answer_in started ≡ answer → IsReceived p.receipts event' answer p'.receipts
 received p p' event event' answer started told same is = (_, told.made.receipts, same, is)

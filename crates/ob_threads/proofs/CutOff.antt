@@ -5,17 +5,17 @@ use Rattle.std.specs.Prelude.{IfErr}
 use Rattle.std.specs.Io.KnownBytes.{Appends}
 use Rattle.std.proofs.KnownBytes.{Appends-trans}
 use Rattle.serde_json.specs.Written.{compact_text}
-use Rattle.ob_journal.specs.Lines.{entry_line, entry_lines, entry_value, journal_lines, segment_lines}
-use Rattle.ob_journal.specs.Segments.{Segment}
+use Rattle.ob_entries.specs.Lines.{entry_line, entry_lines, entry_value, journal_lines, segment_lines}
+use Rattle.ob_entries.specs.Segments.{Segment}
 use Rattle.ob_model.specs.Run.{Entry}
 use Rattle.ob_standard.specs.Standard.{StandardKind, standard}
-use Rattle.ob_streams.specs.declared.fault.ShellFault.{ShellFault}
-use Rattle.ob_streams.specs.declared.fault.ShellFault.TheVariants as fault
-use Rattle.ob_streams.specs.Writing.{AppendsFront}
+use Rattle.ob_output.specs.declared.fault.ShellFault.{ShellFault}
+use Rattle.ob_output.specs.declared.fault.ShellFault.TheVariants as fault
+use Rattle.ob_output.specs.Writing.{AppendsFront}
 use Rattle.ob_threads.specs.Written.{IsCutOff}
-use Rattle.ob_streams.proofs.Writers.{append-front, front-append}
+use Rattle.ob_output.proofs.Writers.{append-front, front-append}
 
--- a write failed behind a front
+-- a write failed after a front
 pub cut_by : (old mid new : Option (List ℕ)) (front piece rest whole : List ℕ) → whole ≡ front ++ (piece ++ rest) → Appends old mid front → AppendsFront mid new piece
     → AppendsFront old new whole
 cut_by old mid new front piece rest whole split written cut =
@@ -107,7 +107,7 @@ module _ (seats : ℕ) (ss : List (Segment StandardKind)) (last : Segment Standa
         sym (ap (journal_lines type_name seats) (take_more ss i s inside is) ∙ journal_append seats (take i ss) (s ∷ [])
         ∙ ap (λ l. journal_lines type_name seats (take i ss) ++ l) (append-nil (segment_lines type_name seats s)))
 
--- a segment was cut off behind others
+-- a segment was cut off after others
 pub cut_behind : (fault : ShellFault) (old mid new : Option (List ℕ)) (front piece rest whole : List ℕ) → whole ≡ front ++ (piece ++ rest) → Appends old mid front → IsCutOff fault mid new piece
     → IsCutOff fault old new whole
 cut_behind (fault.Write unwritten) old mid new front piece rest whole split written cut = cut_by old mid new front piece rest whole split written cut
@@ -116,31 +116,31 @@ cut_behind (fault.Read unread) old mid new front piece rest whole split written 
 cut_behind fault.TooLong old mid new front piece rest whole split written cut = absurd cut
 cut_behind fault.Mismatch old mid new front piece rest whole split written cut = absurd cut
 
--- the first of those that are left is put behind the others
+-- the first of those that are left is put after the others
 pub removed_first : {J P : Type 0} (of : J → P) (js js' : List J) (ps ps' all : List P) (j : J) → js' ≡ js ++ j ∷ [] → of j ≡ get_or ps 0 (of j) → ps' ≡ take 0 ps ++ drop (0 + 1) ps → 0 < length ps
     → map of js ++ ps ≡ all → map of js' ++ ps' ≡ all
 removed_first of js js' [] ps' all j more first left some joined = absurd (omega (arith, some))
 removed_first of js js' (p ∷ ps) ps' all j more first left some joined =
     ap (λ l. map of l ++ ps') more ∙ (ap (λ l. l ++ ps') (map-append of js (j ∷ [])) ∙ (append_assoc (map of js) (of j ∷ []) ps' ∙ (ap (λ l. map of js ++ of j ∷ l) left ∙ (ap (λ q. map of js ++ q ∷ ps) first ∙ joined))))
 
--- the next of some things is put behind the others
+-- the next of some things is put after the others
 pub mapped_more : {J A : Type 0} (of : J → A) (js js' : List J) (j : J) (xs : List A) (i : ℕ) → js' ≡ js ++ j ∷ [] → map of js ≡ take i xs → i < length xs → of j ≡ get_or xs i (of j) → map of js' ≡ take (i + 1) xs
 mapped_more of js js' j xs i more so_far inside is =
     ap (map of) more ∙ (map-append of js (j ∷ []) ∙ (ap (λ l. l ++ of j ∷ []) so_far ∙ sym (take_more xs i (of j) inside is)))
 
--- an element is the same whatever stands for one that isn't there
+-- an element that is there is the same for each default
 pub same_there : {X : Type 0} (xs : List X) (i : ℕ) (d e : X) → i < length xs → get_or xs i d ≡ get_or xs i e
 same_there [] i d e inside = absurd (omega (arith, inside))
 same_there (x ∷ xs) zero d e inside = refl
 same_there (x ∷ xs) (suc i) d e inside = same_there xs i d e (omega (arith, inside))
 
--- what stands at a place of a list has its value there
+-- what is at a place of a list has its value there
 pub mapped_at : {A B : Type 0} (of : A → B) (xs : List A) (i : ℕ) (x : A) → i < length xs → x ≡ get_or xs i x → of x ≡ get_or (map of xs) i (of x)
 mapped_at of [] i x inside is = absurd (omega (arith, inside))
 mapped_at of (y ∷ ys) zero x inside is = ap of is
 mapped_at of (y ∷ ys) (suc i) x inside is = mapped_at of ys i x (omega (arith, inside)) is
 
--- the last segment was written, or cut off, behind the others
+-- the last segment was written, or cut off, after the others
 module _ (old mid new : Option (List ℕ)) (front piece whole : List ℕ) (split : whole ≡ front ++ (piece ++ [])) (written : Appends old mid front) where
   pub last_written : {E : Type 0} (r : Result (Unit {0}) E) → OnOk r (Appends mid new piece) → OnOk r (Appends old new whole)
   last_written (Ok done) more = subst (Appends old new) (sym (split ∙ ap (λ l. front ++ l) (append-nil piece))) (Appends-trans old mid new front piece written more)

@@ -1,4 +1,4 @@
--- What holds of all workers where the end that is told is that all lines were run.
+-- What holds of all workers where the end that is reported is that all lines were run.
 use Rattle.std.proofs.Common.{◌≡◌, ◌∙◌, ◌<◌, ℕ, suc, cond, Bool, true, false, List, [], ◌∷◌, ◌++◌, All, OnOk, IfOk, Result, Ok, Err, map, get_or, length, ap, refl, arith}
 use Rattle.std.proofs.lemmas.List.{map-append}
 use Rattle.std.proofs.lemmas.List.Elements.{All-push}
@@ -7,7 +7,7 @@ use Rattle.std.specs.List.{AllZip}
 use Rattle.ob_seats.specs.declared.stop.Stopped.{Stopped}
 use Rattle.ob_threads.specs.Ended.{SeatOutcome, is_told_first, told_in, told_of}
 
--- where the one told is that all was run, both are
+-- where the one reported is that all was run, both are
 pub both_done : (one other : SeatOutcome) (P : Type 0) → (one ≡ Ok tt → other ≡ Ok tt → P) → OnOk (told_of one other) P
 both_done (Ok u) (Ok v) P on = on refl refl
 both_done (Ok u) (Err e) P on = tt
@@ -22,7 +22,7 @@ pub told_more : {W : Type 0} (ended : W → SeatOutcome) (ws : List W) (w : W) (
 told_more ended ws w (Ok u) all = both_done (Ok u) (ended w) (All (λ x. ended x ≡ Ok tt) (ws ++ w ∷ [])) (λ a b. All-push (λ x. ended x ≡ Ok tt) ws w all b)
 told_more ended ws w (Err e) all = both_done (Err e) (ended w) (All (λ x. ended x ≡ Ok tt) (ws ++ w ∷ [])) (λ a b. cc)
 
--- the end that is told of one more
+-- the end that is reported with one more
 pub told_push : {W : Type 0} (ended : W → SeatOutcome) (ws : List W) (w : W) → told_in (map ended (ws ++ w ∷ [])) ≡ told_of (told_in (map ended ws)) (ended w)
 told_push ended ws w = ap told_in (map-append ended ws (w ∷ [])) ∙ fold_push told_of (Ok tt) (map ended ws) (ended w)
 

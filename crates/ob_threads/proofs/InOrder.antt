@@ -5,8 +5,8 @@ use Rattle.std.proofs.lemmas.List.Elements.{filter-append}
 use Rattle.std.proofs.lemmas.List.Sums.{fold-append}
 use Rattle.ob_threads.specs.declared.order.Order.{Order}
 use Rattle.ob_threads.specs.declared.order.Order.TheVariants.{Begun, Joined, Broken}
-use Rattle.ob_journal.specs.Segments.{Segment, joined}
-use Rattle.ob_settled.specs.Settled.{entries_of}
+use Rattle.ob_entries.specs.Segments.{Segment, joined}
+use Rattle.ob_agreement.specs.Agreement.{entries_of}
 use Rattle.ob_model.specs.Run.{Entry}
 use Rattle.ob_standard.specs.Standard.{StandardKind}
 use Rattle.ob_seats.specs.Received.{Entries}

@@ -1,6 +1,7 @@
 -- That what lends a shared namespace of the standard set to the seats of a script may be shared with threads.
+use denote.Builtin.{unit}
 use denote.RattleType.{RattleType}
-use denote.Param.Send.{IsSend, IsSync, recorded_sync, struct_sync, shr_sync}
+use denote.Param.Send.{IsSend, IsSync, recorded_sync, struct_sync, shr_sync, plain_send}
 use denote.Ref.{NamedLft}
 use denote.Struct.Declared.{shape}
 use Rattle.std.proofs.alloc.Global.TheSendSync as heap
@@ -32,9 +33,13 @@ use Rattle.ob_key.proofs.face.KeyFace.TheSendSync as key_faces
 use Rattle.ob_key.proofs.key.KeyInner.TheSendSync as key_inners
 use Rattle.ob_standard.specs.contracts.set.Standard as standard
 use Rattle.ob_standard.proofs.set.Standard.TheSendSync as standards
-use Rattle.ob_slab_table.specs.contracts.slab_table.SlabTable as table
-use Rattle.ob_slab_table.specs.contracts.slab_table.SlabTableHandleTable.TheImpl as handles
-use Rattle.ob_slab_table.proofs.slab_table.SlabTable.TheSendSync as tables
+use Rattle.ob_handles.specs.contracts.slab_table.SlabTable as table
+use Rattle.ob_handles.specs.contracts.slab_table.SlabTableHandleTable.TheImpl as handles
+use Rattle.ob_handles.proofs.slab_table.SlabTable.TheSendSync as tables
+use Rattle.std.specs.Prelude.{◌≡◌}
+use Rattle.ob_base.specs.declared.Fault.TheVariants.{Refused}
+use Rattle.ob_base.specs.declared.status.Status.TheVariants.{InvalidParameter}
+use Rattle.ob_shared.specs.declared.publishing.Publishing as Publishing
 use Rattle.ob_shared.proofs.Lent.{shared_sync}
 use Rattle.ob_threads.specs.contracts.lent.Lent as lent
 
@@ -73,11 +78,15 @@ abbrev equal : PartialEq.Ghosts kind.Denot
 equal = either_equal.ghosts plain_kind.the_row (either.the_row device_kind.the_row key_kind.the_row) plain_equal.ghosts either_equal.no_dict
     (either_equal.ghosts device_kind.the_row key_kind.the_row device_equal.ghosts either_equal.no_dict key_equal.ghosts either_equal.no_dict) either_equal.no_dict
 
+-- nothing is published
+abbrev nothing : Publishing.Ghosts unit.Denot (standard.the_row).Denot unit.Denot kind.Denot face.Denot inner.Denot
+nothing = record { keeps = λ publisher h. Unit {0}; shows = λ publisher published h. ⊥; faults = λ fault. fault ≡ Refused InvalidParameter }
+
 module _ (a : NamedLft) (H L : RattleType) (l : Ledger.Ghosts L.Denot) where
   pub lent_sync : IsSync H → IsSync (lent.the_row a H L l)
   lent_sync runtime =
       recorded_sync (lent.the_field a H L l).row _ _ (lent.the_type a H L l).to_one
       (struct_sync (shape (lent.the_type a H L l)) (
-        shr_sync _ _ _ (shared_sync standard.the_row table.the_row L kind face inner _ equal handles.ghosts l standards.the_send tables.the_send kind_send kind_sync face_send inner_send face_sync),
+        shr_sync _ _ _ (shared_sync standard.the_row table.the_row L unit kind face inner unit _ equal handles.ghosts l nothing standards.the_send tables.the_send (plain_send _ _ _ _ _) kind_send kind_sync face_send inner_send face_sync),
         (shr_sync _ _ _ runtime, (heap.the_field_sync, tt)),
       ))

@@ -1,8 +1,8 @@
 -- What a run that ended so writes.
 use Rattle.std.proofs.Common.{◌≡◌, ◌∙◌, ◌+◌, ℕ, List, [], ◌∷◌, ◌++◌, Ok, Err, map, length, ap, refl, sym}
 use Rattle.std.proofs.lemmas.List.{length-map}
-use Rattle.ob_journal.specs.Lines.{journal_lines}
-use Rattle.ob_journal.specs.Segments.{Segment, joined}
+use Rattle.ob_entries.specs.Lines.{journal_lines}
+use Rattle.ob_entries.specs.Segments.{Segment, joined}
 use Rattle.ob_lines.specs.Lines.{lines_of}
 use Rattle.ob_standard.specs.Standard.{StandardKind, standard}
 use Rattle.ob_worker_lines.specs.declared.script.WorkerScript.{WorkerScript}

@@ -7,7 +7,7 @@ use Rattle.std.specs.List.{range_with_len}
 use Rattle.ob_standard.specs.Standard.{StandardKind}
 use Rattle.ob_locked.specs.Opened.{fresh_pass}
 use Rattle.ob_locked.specs.Passed.{Passed}
-use Rattle.ob_settled.specs.Settled.{IsSettled, entries_of, passes_of, only}
+use Rattle.ob_agreement.specs.Agreement.{Agrees, entries_of, passes_of, only}
 use Rattle.ob_seats.specs.Received.{Entries}
 use Rattle.ob_threads.specs.Played.{ArePasses, ArePassesOf, AreReceiptsOf, IsInOrder, IsJournalOf, SeatsRelation, entries_from}
 
@@ -53,18 +53,18 @@ parted test (x ∷ xs) ys p is = go (test x) (parted test xs ys p is)
 
 module _ (journal : Entries) (seats : ℕ) where
   -- a pass has received the entries of its seat
-  pub received : (xs ys : List P) (p : P) → IsSettled journal (xs ++ p ∷ ys) seats → p.seat < seats → p.receipts ≡ entries_of p.seat journal
+  pub received : (xs ys : List P) (p : P) → Agrees journal (xs ++ p ∷ ys) seats → p.seat < seats → p.receipts ≡ entries_of p.seat journal
   received xs ys p settled inside =
       let own = (settled p.seat).0 inside in
       ap (λ (q : P). q.receipts) (only_is (passes_of p.seat xs) (passes_of p.seat ys) p (record { seat = p.seat; receipts = entries_of p.seat journal })
       (ap only (sym (parted (λ (q : P). q.seat == p.seat) xs ys p (eq-eqb p.seat p.seat refl))) ∙ own))
 
   -- and so have several
-  pub received_all : (xs ys zs : List P) → IsSettled journal (xs ++ (ys ++ zs)) seats → All (λ (p : P). p.seat < seats) ys → map (λ (p : P). p.receipts) ys ≡ map (λ (p : P). entries_of p.seat journal) ys
+  pub received_all : (xs ys zs : List P) → Agrees journal (xs ++ (ys ++ zs)) seats → All (λ (p : P). p.seat < seats) ys → map (λ (p : P). p.receipts) ys ≡ map (λ (p : P). entries_of p.seat journal) ys
   received_all xs [] zs settled inside = refl
   received_all xs (y ∷ ys) zs settled inside = λ i.
       received xs (ys ++ zs) y settled (All-head (λ (p : P). p.seat < seats) y ys inside) i
-      ∷ received_all (xs ++ y ∷ []) ys zs (subst (λ l. IsSettled journal l seats) (sym (append_assoc xs (y ∷ []) (ys ++ zs))) settled) (All-tail (λ (p : P). p.seat < seats) y ys inside) i
+      ∷ received_all (xs ++ y ∷ []) ys zs (subst (λ l. Agrees journal l seats) (sym (append_assoc xs (y ∷ []) (ys ++ zs))) settled) (All-tail (λ (p : P). p.seat < seats) y ys inside) i
 
 mapped_seats : (journal : Entries) (ps : List P) → map (λ (p : P). entries_of p.seat journal) ps ≡ map (λ s. entries_of s journal) (map (λ (p : P). p.seat) ps)
 mapped_seats journal [] = refl
@@ -105,7 +105,7 @@ module _ (count : ℕ) (own begun rest : Entries) (many : length begun ≡ count
   of_receipts is = subst (Is begun theirs) last_are (subst (λ es. Is es theirs (drop count own)) first_are is)
 
 -- what is so with the receipts of passes is so with the entries of a journal that is settled with them, and in order
-pub settled_of : (Is : SeatsRelation) (journal : Entries) (count seats begun : ℕ) (passes : List P) → seats ≡ count + 1 → ArePasses count passes → IsSettled journal passes seats → IsInOrder begun journal → ArePassesOf Is begun passes
+pub settled_of : (Is : SeatsRelation) (journal : Entries) (count seats begun : ℕ) (passes : List P) → seats ≡ count + 1 → ArePasses count passes → Agrees journal passes seats → IsInOrder begun journal → ArePassesOf Is begun passes
     → IsJournalOf Is count journal
 settled_of Is journal count seats begun passes all_seats are settled (first, rest, many, ordered) (theirs, own, whole, is) = (
   first,
@@ -118,8 +118,8 @@ settled_of Is journal count seats begun passes all_seats are settled (first, res
     parts : (map (λ (p : P). p.seat) theirs ≡ range_with_len 1 count) × (own.seat ≡ 0)
     parts = last_same _ _ _ _ (sym (ap (map (λ (p : P). p.seat)) whole ∙ map-append (λ (p : P). p.seat) theirs (own ∷ [])) ∙ are)
 
-    own_settled : IsSettled journal (theirs ++ own ∷ []) seats
-    own_settled = subst (λ l. IsSettled journal l seats) whole settled
+    own_settled : Agrees journal (theirs ++ own ∷ []) seats
+    own_settled = subst (λ l. Agrees journal l seats) whole settled
 
     own_is : own.receipts ≡ entries_of 0 journal
     own_is = received journal seats theirs [] own own_settled (omega (arith, parts.1, all_seats)) ∙ ap (λ s. entries_of s journal) parts.1

@@ -5,8 +5,8 @@ use Rattle.std.specs.Prelude.{◌≡◌, ℕ, ◌+◌, ◌≤◌, List, [], ◌�
 use Rattle.std.specs.List.{AllZip, range_with_len}
 use Rattle.ob_standard.specs.Standard.{StandardKind}
 use Rattle.ob_locked.specs.Passed.{Passed}
-use Rattle.ob_settled.specs.Settled.{entries_of}
-use Rattle.ob_requests.specs.Words.{Words, first_words}
+use Rattle.ob_agreement.specs.Agreement.{entries_of}
+use Rattle.ob_requests.specs.Variables.{Variables, first_variables}
 use Rattle.ob_worker_lines.specs.Cuts.{IsCut, Lines}
 use Rattle.ob_seats.specs.Kept.{for_worker}
 use Rattle.ob_seats.specs.Played.{ArePlayed, IsSeatPlayed}
@@ -15,10 +15,10 @@ use Rattle.ob_seats.specs.Received.{Entries}
 -- Seat 0 plays the lines before the workers. Each worker plays its own lines, with the variables that seat 0 then has, and seat 0 plays the lines after the
 -- join, which end it. These are the entries of seat 0 before the workers, those of each worker in order, and those of seat 0 after the join.
 pub record IsPlayedBy (before : Lines) (workers : List Lines) (behind : Lines) (begun : Entries) (theirs : List Entries) (rest : Entries) : Type 0 where
-  pub words : Words
-  pub first : ArePlayed before first_words begun words
-  pub workers_play : AllZip (λ lines entries. IsSeatPlayed lines (for_worker words) entries) workers theirs
-  pub last : IsSeatPlayed behind words rest
+  pub variables : Variables
+  pub first : ArePlayed before first_variables begun variables
+  pub workers_play : AllZip (λ lines entries. IsSeatPlayed lines (for_worker variables) entries) workers theirs
+  pub last : IsSeatPlayed behind variables rest
 
 -- a relation of the entries of seat 0 before the workers, those of each worker in order, and those of seat 0 after the join
 abbrev pub SeatsRelation : Type 1

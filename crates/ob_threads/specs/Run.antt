@@ -6,10 +6,10 @@ use Rattle.std.specs.Prelude.{◌≡◌, ◌⊎◌, ◌+◌, ℕ, List, [], ◌+
 use Rattle.std.specs.List.{AllZip}
 use Rattle.ob_base.specs.declared.fault.Fault.{Fault}
 use Rattle.ob_model.specs.Run.{Run}
-use Rattle.ob_journal.specs.Segments.{Segment, AreSealed, joined, open_after}
+use Rattle.ob_entries.specs.Segments.{Segment, AreSealed, joined, open_after}
 use Rattle.ob_standard.specs.Standard.{Standard, StandardKind, standard}
 use Rattle.ob_standard_core.specs.Machine.{Space}
-use Rattle.ob_requests.specs.Words.{Words, first_words}
+use Rattle.ob_requests.specs.Variables.{Variables, first_variables}
 use Rattle.ob_worker_lines.specs.declared.part.Part.{Part}
 use Rattle.ob_worker_lines.specs.declared.script.WorkerScript.{WorkerScript}
 use Rattle.ob_worker_lines.specs.Cuts.{IsCut, Lines}
@@ -30,9 +30,9 @@ IsGiven gives fault = (last : _) × gives last fault
 
 -- Each worker runs its part, beginning with these variables, by its own entries to its own end. One of these ends is
 -- reported for them all.
-pub record AreWorkersRun (known : Fault → Type 0) (parts : List Part) (words : Words) (theirs : List Entries) (ended : SeatOutcome) : Type 0 where
+pub record AreWorkersRun (known : Fault → Type 0) (parts : List Part) (variables : Variables) (theirs : List Entries) (ended : SeatOutcome) : Type 0 where
   pub runs : List (Entries × SeatOutcome)
-  pub each : AllZip (λ part run. IsSeatRun known part words run.0 run.1) parts runs
+  pub each : AllZip (λ part run. IsSeatRun known part variables run.0 run.1) parts runs
   pub theirs_are : theirs ≡ map (λ run. run.0) runs
   pub told : ended ≡ told_in (map (λ run. run.1) runs)
 
@@ -40,22 +40,22 @@ pub record AreWorkersRun (known : Fault → Type 0) (parts : List Part) (words :
 pub record AreNotBegun {P : Type 0} (gives : P → Fault → Type 0) (before : Part) (own : Entries) (theirs : List Entries) (stopped : Stopped) : Type 0 where
   pub begun : Entries
   pub given_up : Entries
-  pub left : Words
+  pub left : Variables
   pub last : P
   pub whole : own ≡ begun ++ given_up
-  pub stops : IsPartStopped (gives last) before.first (lines_in before) first_words begun stopped left
+  pub stops : IsPartStopped (gives last) before.first (lines_in before) first_variables begun stopped left
   pub let_go : AreLetGo left given_up
   pub idle : All (λ entries. entries ≡ []) theirs
 
 -- Seat 0 plays its lines before the workers. Each worker runs its own, beginning with the variables that seat 0 then has, and seat 0 goes on with the lines
 -- after the workers. Of the ends of both one is reported.
 pub record AreBegun (known : Fault → Type 0) (script : WorkerScript) (begun : Entries) (theirs : List Entries) (rest : Entries) (ended : SeatOutcome) : Type 0 where
-  pub words : Words
+  pub variables : Variables
   pub their_end : SeatOutcome
   pub own_end : SeatOutcome
-  pub first : ArePlayed (lines_in script.before) first_words begun words
-  pub workers_run : AreWorkersRun known script.workers.items (for_worker words) theirs their_end
-  pub last : IsSeatRun known script.behind words rest own_end
+  pub first : ArePlayed (lines_in script.before) first_variables begun variables
+  pub workers_run : AreWorkersRun known script.workers.items (for_worker variables) theirs their_end
+  pub last : IsSeatRun known script.behind variables rest own_end
   pub told : ended ≡ told_of their_end own_end
 
 -- A script that was cut is run, and this end is reported: seat 0 stops before the workers, or all seats run.

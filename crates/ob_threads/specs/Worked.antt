@@ -2,7 +2,7 @@
 --
 -- Source: this profile.
 use Rattle.std.specs.Prelude.{◌≡◌, ◌<◌, ◌+◌, ◌^◌, ℕ, ◌++◌, length, Ok, Err}
-use Rattle.ob_requests.specs.Words.{Words}
+use Rattle.ob_requests.specs.Variables.{Variables}
 use Rattle.ob_worker_lines.specs.Cuts.{AreSeatLines}
 use Rattle.ob_worker_lines.specs.declared.part.Part.{Part}
 use Rattle.ob_worker_lines.specs.Parts.{lines_in}
@@ -16,11 +16,11 @@ abbrev pub CanRun : Part → Type 0
 CanRun part = AreSeatLines (lines_in part) × (part.first + length (lines_in part) < 2 ^ 64)
 
 -- A seat that runs the lines of a part, beginning with these variables, makes these entries and ends so: it plays them to their end, or stops before.
-abbrev pub IsSeatRun : Known → Part → Words → Entries → SeatOutcome → Type 0
-IsSeatRun known part words entries (Ok done) = IsSeatPlayed (lines_in part) words entries
-IsSeatRun known part words entries (Err stopped) = IsSeatStopped known part.first (lines_in part) words entries stopped
+abbrev pub IsSeatRun : Known → Part → Variables → Entries → SeatOutcome → Type 0
+IsSeatRun known part variables entries (Ok done) = IsSeatPlayed (lines_in part) variables entries
+IsSeatRun known part variables entries (Err stopped) = IsSeatStopped known part.first (lines_in part) variables entries stopped
 
 -- a worker, which had these receipts, was run: its seat stays, and the receipts that follow are the entries of its run
-abbrev pub IsWorked : Known → Part → Words → (seat seat' : ℕ) → (receipts receipts' : Entries) → SeatOutcome → Type 0
-IsWorked known part words seat seat' receipts receipts' ended =
-    (seat' ≡ seat) × ((entries : Entries) × (receipts' ≡ receipts ++ entries) × IsSeatRun known part words entries ended)
+abbrev pub IsWorked : Known → Part → Variables → (seat seat' : ℕ) → (receipts receipts' : Entries) → SeatOutcome → Type 0
+IsWorked known part variables seat seat' receipts receipts' ended =
+    (seat' ≡ seat) × ((entries : Entries) × (receipts' ≡ receipts ++ entries) × IsSeatRun known part variables entries ended)

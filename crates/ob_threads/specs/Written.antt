@@ -3,18 +3,18 @@
 -- Source: this profile.
 use Rattle.std.specs.Prelude.{◌≡◌, ◌≢◌, ◌<◌, ◌⊎◌, ℕ, false, List, [], ◌∷◌, ◌++◌, length, Option, Result, Err, IfOk, IfErr, IfSome, IsErr, IsErrOf, codes}
 use Rattle.std.specs.Io.KnownBytes.{Appends}
-use Rattle.ob_journal.specs.Lines.{journal_lines}
+use Rattle.ob_entries.specs.Lines.{journal_lines}
 use Rattle.ob_lines.specs.Lines.{lines_of}
 use Rattle.ob_model.specs.Run.{Run}
 use Rattle.ob_output.specs.Printed.{output_line}
-use Rattle.ob_journal.specs.Segments.{Segment, AreSealed, joined, open_after}
+use Rattle.ob_entries.specs.Segments.{Segment, AreSealed, joined, open_after}
 use Rattle.ob_standard.specs.Standard.{Standard, StandardKind, standard}
 use Rattle.ob_standard_core.specs.Machine.{Space}
-use Rattle.ob_streams.specs.declared.fault.ShellFault.{ShellFault}
-use Rattle.ob_streams.specs.declared.fault.ShellFault.TheVariants as fault
-use Rattle.ob_streams.specs.declared.reading.TheConstants.{SCRIPT_LIMIT}
-use Rattle.ob_streams.specs.Fault.{is_unwritten}
-use Rattle.ob_streams.specs.Writing.{AppendsFront}
+use Rattle.ob_output.specs.declared.fault.ShellFault.{ShellFault}
+use Rattle.ob_output.specs.declared.fault.ShellFault.TheVariants as fault
+use Rattle.ob_output.specs.declared.reading.TheConstants.{SCRIPT_LIMIT}
+use Rattle.ob_output.specs.Fault.{is_unwritten}
+use Rattle.ob_output.specs.Writing.{AppendsFront}
 use Rattle.ob_worker_lines.specs.Cuts.{IsBadLine}
 use Rattle.ob_seats.specs.declared.stop.Stop.{Stop}
 use Rattle.ob_seats.specs.declared.stop.Stop.TheVariants.{Memory, Refused}

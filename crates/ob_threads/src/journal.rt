@@ -3,16 +3,15 @@
 ghost use Rattle.std.specs.Prelude.{◌∷◌, ◌++◌, [], OnOk, OnErr, IfErr, codes, map};
 ghost use Rattle.std.specs.Arc.{arc_value};
 ghost use Rattle.std.specs.Io.KnownBytes.{Appends};
-ghost use Rattle.ob_journal.specs.Lines.{journal_lines, segment_lines};
+ghost use Rattle.ob_entries.specs.Lines.{journal_lines, segment_lines};
 ghost use Rattle.ob_output.specs.Printed.{output_line};
 ghost use Rattle.ob_standard.specs.Standard.{standard};
-ghost use Rattle.ob_streams.specs.Writing.{AppendsFront};
+ghost use Rattle.ob_output.specs.Writing.{AppendsFront};
 ghost use Rattle.ob_threads.specs.Written.{IsCutOff};
 
-use ob_journal::{Segment, write_header, write_line};
-use ob_output::text_line;
+use ob_entries::{Segment, write_header, write_line};
+use ob_output::{ShellFault, Unwritten, text_line, write_out};
 use ob_standard::{Standard, StandardKind};
-use ob_streams::{ShellFault, Unwritten, write_out};
 use std::alloc::Global;
 use std::io::Write;
 use std::sync::Arc;

@@ -6,7 +6,7 @@ ghost use Rattle.ob_threads.specs.Faults.{IsFaultAt};
 use ob_base::{Fault, Proc};
 use ob_model::Command;
 use ob_runner::SlabTable;
-use ob_seats::{Begun, Callers};
+use ob_seats::{CallOutcome, Callers};
 use ob_shared::{Parsing, Pass, Pending, Shared, Started};
 use ob_standard::{Standard, StandardKind};
 use std::alloc::Global;
@@ -49,12 +49,12 @@ impl<'a, H: Wait, L: Ledger> Callers for Lent<'a, H, L> {
         command: &Command<StandardKind>,
     ) -> (
         Pass<StandardKind, L>,
-        Result<Begun<Parsing<Standard>>, Fault>,
+        Result<CallOutcome<Parsing<Standard>>, Fault>,
     ) {
         let (pass, started) = self.shared.start(self.rt, pass, process, command);
         match started {
-            Ok(Started::Done(reply)) => (pass, Ok(Begun::Replied(reply))),
-            Ok(Started::Parsing(parsing)) => (pass, Ok(Begun::Waits(parsing))),
+            Ok(Started::Done(reply)) => (pass, Ok(CallOutcome::Replied(reply))),
+            Ok(Started::Parsing(parsing)) => (pass, Ok(CallOutcome::Waits(parsing))),
             Err(fault) => (pass, Err(fault)),
         }
     }
@@ -65,13 +65,13 @@ impl<'a, H: Wait, L: Ledger> Callers for Lent<'a, H, L> {
         parsing: Parsing<Standard>,
     ) -> (
         Pass<StandardKind, L>,
-        Result<Begun<Parsing<Standard>>, Fault>,
+        Result<CallOutcome<Parsing<Standard>>, Fault>,
     ) {
         let parsed = parsing.run(self.alloc);
         let (pass, brought) = self.shared.bring(self.rt, pass, parsed);
         match brought {
-            Ok(Started::Done(reply)) => (pass, Ok(Begun::Replied(reply))),
-            Ok(Started::Parsing(next)) => (pass, Ok(Begun::Waits(next))),
+            Ok(Started::Done(reply)) => (pass, Ok(CallOutcome::Replied(reply))),
+            Ok(Started::Parsing(next)) => (pass, Ok(CallOutcome::Waits(next))),
             Err(fault) => (pass, Err(fault)),
         }
     }

@@ -2,11 +2,11 @@
 
 ghost use Rattle.std.specs.Prelude.{◌≡◌, ◌↔◌, ◌++◌, IsTrue, map};
 ghost use Rattle.std.specs.Arc.{arc_value};
-ghost use Rattle.ob_journal.specs.Segments.{joined};
+ghost use Rattle.ob_entries.specs.Segments.{joined};
 ghost use Rattle.ob_threads.specs.Played.{IsInOrder};
 ghost use Rattle.ob_threads.specs.Order.{after, followed, is_whole};
 
-use ob_journal::{Entry, Segment};
+use ob_entries::{Entry, Segment};
 use ob_standard::StandardKind;
 use std::sync::Arc;
 

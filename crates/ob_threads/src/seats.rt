@@ -2,7 +2,7 @@
 
 ghost use Rattle.std.specs.Prelude.{◌≡◌, ◌<◌, ◌+◌, [], All, IfOk, OnOk, length, map};
 ghost use Rattle.std.specs.List.{AllZip};
-ghost use Rattle.ob_requests.specs.Tables.{words_in};
+ghost use Rattle.ob_requests.specs.Tables.{variables_in};
 ghost use Rattle.ob_worker_lines.specs.Parts.{lines_in};
 ghost use Rattle.ob_seats.specs.Kept.{AreHeld, for_worker};
 ghost use Rattle.ob_seats.specs.Played.{IsSeatPlayed};
@@ -93,7 +93,7 @@ pub fn run_seats<H: Threads + Wait + Sync, C: Callers + Sync>(
     }
 }
 
-/// Runs all workers, with the words of a seat.
+/// Runs all workers, with the variables of a seat.
 fn run_all<H: Threads + Wait + Sync, C: Callers + Sync>(
     rt: &H,
     alloc: Global,
@@ -108,17 +108,17 @@ fn run_all<H: Threads + Wait + Sync, C: Callers + Sync>(
     ensures seats { IfOk result (λ ran. map C.seat_of (ran.0.items) ≡ map C.seat_of passes.items) }
     ensures played { IfOk result (λ ran.
         OnOk (ran.1) (AllZip (λ lines entries.
-        IsSeatPlayed lines (for_worker (words_in seat.now.words)) entries)
+        IsSeatPlayed lines (for_worker (variables_in seat.now.variables)) entries)
         (map lines_in parts.now) (map C.receipts (ran.0.items)))) }
     ensures run { IfOk result (λ ran. AreWorkersRun (IsGiven C.gives_fault) parts.now
-        (for_worker (words_in seat.now.words)) (map C.receipts (ran.0.items)) (ran.1)) }
+        (for_worker (variables_in seat.now.variables)) (map C.receipts (ran.0.items)) (ran.1)) }
 {
     let jobs = jobs_of(alloc, seat, parts, passes)?;
     let worked = run_workers(rt, callers, jobs)?;
     gather(alloc, worked)
 }
 
-/// A job for each part, with the pass at its place and the words of a seat.
+/// A job for each part, with the pass at its place and the variables of a seat.
 fn jobs_of<'a, C: Callers>(
     alloc: Global,
     seat: &Seat<C>,
@@ -128,19 +128,19 @@ fn jobs_of<'a, C: Callers>(
     requires passes { length passes.items ≡ length parts.now }
     ensures parts { IfOk result (λ jobs. map (λ job. job.part) jobs.items ≡ parts.now) }
     ensures passes { IfOk result (λ jobs. map (λ job. job.pass) jobs.items ≡ passes.items) }
-    ensures words { IfOk result (λ jobs. All (λ job. words_in job.words
-        ≡ for_worker (words_in seat.now.words)) jobs.items) }
+    ensures variables { IfOk result (λ jobs. All (λ job. variables_in job.variables
+        ≡ for_worker (variables_in seat.now.variables)) jobs.items) }
     ensures none { IfOk result (λ jobs.
-        All (λ job. AreHeld (words_in job.words).tickets []) jobs.items) }
+        All (λ job. AreHeld (variables_in job.variables).tickets []) jobs.items) }
 {
     let mut jobs = Vec::new(alloc);
     let mut passes = passes;
     for part in parts {
-        let words = seat.words_for_worker()?;
+        let variables = seat.variables_for_worker()?;
         let pass = passes.remove(0);
         jobs.push(Job {
             pass,
-            words,
+            variables,
             part: *part,
         })?;
     }

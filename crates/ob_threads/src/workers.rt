@@ -2,14 +2,14 @@
 
 ghost use Rattle.std.specs.Prelude.{◌≡◌, [], All, IfOk, OnOk, Ok, map};
 ghost use Rattle.std.specs.List.{AllZip};
-ghost use Rattle.ob_requests.specs.Tables.{words_in};
+ghost use Rattle.ob_requests.specs.Tables.{variables_in};
 ghost use Rattle.ob_seats.specs.Kept.{AreHeld};
 ghost use Rattle.ob_threads.specs.Ended.{told_in};
 ghost use Rattle.ob_threads.specs.Run.{IsGiven};
 ghost use Rattle.ob_threads.specs.Worked.{CanRun, IsWorked};
 
 use crate::ends::told_of;
-use ob_requests::Words;
+use ob_requests::Variables;
 use ob_seats::{Callers, Seat, Stopped, run_seat};
 use ob_worker_lines::Part;
 use std::alloc::{AllocError, Global};
@@ -17,11 +17,11 @@ use std::sync::Wait;
 use std::thread;
 use std::thread::Threads;
 
-/// The job of a worker: its pass, the words that it begins with, and its lines.
+/// The job of a worker: its pass, the variables that it begins with, and its lines.
 #[derive(Drop)]
 pub(crate) struct Job<'a, C: Callers> {
     pub(crate) pass: C::Pass,
-    pub(crate) words: Words,
+    pub(crate) variables: Variables,
     pub(crate) part: Part<'a>,
 }
 
@@ -39,10 +39,10 @@ pub(crate) fn run_workers<H: Threads + Wait + Sync, C: Callers + Sync>(
     jobs: Vec<Job<'_, C>>,
 ) -> Result<Vec<Worked<C>>, AllocError>
     requires parts { All (λ job. CanRun job.part) jobs.items }
-    requires words { All (λ job. AreHeld (words_in job.words).tickets []) jobs.items }
+    requires variables { All (λ job. AreHeld (variables_in job.variables).tickets []) jobs.items }
     ensures { IfOk result (λ worked.
         AllZip (λ job done.
-        IsWorked (IsGiven C.gives_fault) job.part (words_in job.words) (C.seat_of job.pass)
+        IsWorked (IsGiven C.gives_fault) job.part (variables_in job.variables) (C.seat_of job.pass)
         (C.seat_of done.pass) (C.receipts job.pass) (C.receipts done.pass) done.ended)
         jobs.entry.items worked.items) }
 {
@@ -50,8 +50,8 @@ pub(crate) fn run_workers<H: Threads + Wait + Sync, C: Callers + Sync>(
         rt,
         jobs,
         &|job: Job<'_, C>| -> Worked<C>
-            requires { CanRun job.part × AreHeld (words_in job.words).tickets [] }
-            ensures { IsWorked (IsGiven C.gives_fault) job.entry.part (words_in job.entry.words)
+            requires { CanRun job.part × AreHeld (variables_in job.variables).tickets [] }
+            ensures { IsWorked (IsGiven C.gives_fault) job.entry.part (variables_in job.entry.variables)
                 (C.seat_of job.entry.pass) (C.seat_of result.pass) (C.receipts job.entry.pass)
                 (C.receipts result.pass) result.ended }
         { work(rt, callers, job) },
@@ -61,13 +61,17 @@ pub(crate) fn run_workers<H: Threads + Wait + Sync, C: Callers + Sync>(
 /// Runs a worker's lines to their end.
 fn work<H: Wait, C: Callers>(rt: &H, callers: &C, job: Job<'_, C>) -> Worked<C>
     requires part { CanRun job.part }
-    requires words { AreHeld (words_in job.words).tickets [] }
-    ensures { IsWorked (IsGiven C.gives_fault) job.entry.part (words_in job.entry.words)
+    requires variables { AreHeld (variables_in job.variables).tickets [] }
+    ensures { IsWorked (IsGiven C.gives_fault) job.entry.part (variables_in job.entry.variables)
         (C.seat_of job.entry.pass) (C.seat_of result.pass) (C.receipts job.entry.pass)
         (C.receipts result.pass) result.ended }
 {
-    let Job { pass, words, part } = job;
-    let (pass, ended) = run_seat(rt, callers, Seat::with_words(words), pass, part);
+    let Job {
+        pass,
+        variables,
+        part,
+    } = job;
+    let (pass, ended) = run_seat(rt, callers, Seat::with_variables(variables), pass, part);
     Worked { pass, ended }
 }
 

@@ -4,7 +4,7 @@ ghost use Rattle.std.specs.Prelude.{[]};
 
 use ob_base::{Fault, Proc, Status};
 use ob_model::Command;
-use ob_seats::{Begun, Callers, Stop, Stopped};
+use ob_seats::{CallOutcome, Callers, Stop, Stopped};
 use ob_standard::StandardKind;
 use ob_threads::run_seats;
 use ob_worker_lines::cut;
@@ -45,7 +45,7 @@ impl Callers for Refusing {
         pass: usize,
         _process: Proc,
         _command: &Command<StandardKind>,
-    ) -> (usize, Result<Begun<u64>, Fault>) {
+    ) -> (usize, Result<CallOutcome<u64>, Fault>) {
         let end = if pass < 3 {
             self.ends[pass]
         } else {
@@ -57,7 +57,7 @@ impl Callers for Refusing {
         }
     }
 
-    fn resume(&self, pass: usize, _parsing: u64) -> (usize, Result<Begun<u64>, Fault>) {
+    fn resume(&self, pass: usize, _parsing: u64) -> (usize, Result<CallOutcome<u64>, Fault>) {
         (pass, Err(Fault::Memory))
     }
 

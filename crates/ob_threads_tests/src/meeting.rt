@@ -5,7 +5,7 @@ ghost use Rattle.ob_base.specs.declared.fault.Fault.TheVariants.{Memory};
 
 use ob_base::{Fault, Proc};
 use ob_model::Command;
-use ob_seats::{Begun, Callers, Stop, Stopped};
+use ob_seats::{CallOutcome, Callers, Stop, Stopped};
 use ob_standard::StandardKind;
 use ob_threads::run_seats;
 use ob_worker_lines::cut;
@@ -91,7 +91,7 @@ impl<R: Clock> Callers for Meeting<'_, R> {
         pass: u32,
         _process: Proc,
         _command: &Command<StandardKind>,
-    ) -> (u32, Result<Begun<u64>, Fault>) {
+    ) -> (u32, Result<CallOutcome<u64>, Fault>) {
         match pass {
             0 => self.follow(),
             1 => self.meet(&self.first, &self.second),
@@ -100,7 +100,7 @@ impl<R: Clock> Callers for Meeting<'_, R> {
         (pass, Err(Fault::Memory))
     }
 
-    fn resume(&self, pass: u32, _parsing: u64) -> (u32, Result<Begun<u64>, Fault>) {
+    fn resume(&self, pass: u32, _parsing: u64) -> (u32, Result<CallOutcome<u64>, Fault>) {
         (pass, Err(Fault::Memory))
     }
 

@@ -1,1 +1,4 @@
 mod Runs
+pub mod UnnoticedParts
+pub mod UnnoticedSteps
+pub mod UnnoticedRuns

@@ -4,4 +4,5 @@ pub mod Runs
 pub mod Both
 pub mod BothLaws
 pub mod Parse
-pub mod Brought
+pub mod Pending
+pub mod Unnoticed

@@ -3,7 +3,7 @@
 -- Sources: Windows Internals, Object Manager (parse methods). That a parse is run between two steps, and who it
 -- is taken for, is this profile.
 use Rattle.std.specs.Prelude.{◌≡◌, ℕ, true, List, Option, None, Some, MatchOption}
-use Rattle.ob_model.specs.declared.state.Pending.{Pending}
+use Rattle.ob_model.specs.declared.state.PendingOpen.{PendingOpen}
 use Rattle.ob_model.specs.Procedures.{Procedures, ParseOutcome, EndsItself, EndsMade, EndsReparse, EndsRefused, ParseEnds}
 
 -- a parse that is to be run: the ticket of the open that waits for it, the face of the object that the open
@@ -46,7 +46,7 @@ module _ {K T F I : Type 0} (g : Procedures K T F I) where
 
   -- A parse is the one that a pending open waits for, where the object that the open pins has the face `pinned`:
   -- it is under the ticket of the open and over its rest, and its face is found the same as that one.
-  pub record IsFor (asked : ToRun F) (x : Pending K) (pinned : F) : Type 0 where
+  pub record IsFor (asked : ToRun F) (x : PendingOpen K) (pinned : F) : Type 0 where
     pub ticket : asked.ticket ≡ x.ticket
     pub rest : asked.rest ≡ x.rest
     pub face : g.same_face asked.face pinned ≡ true

@@ -4,7 +4,7 @@ ghost use Rattle.std.specs.Prelude.{◌↔◌, IsTrue};
 ghost use Rattle.ob_types.specs.Parse.{IsFor};
 
 use crate::TypeSet;
-use ob_model::Pending;
+use ob_model::PendingOpen;
 
 /// Whether a parse under this ticket, of this face over this rest, is the one that a pending open waits for,
 /// where the object that it pins has the face `pinned`.
@@ -12,7 +12,7 @@ pub(crate) fn is_asked<T: TypeSet>(
     ticket: u64,
     face: &T::Face,
     rest: &[u8],
-    pending: &Pending<T::Kind>,
+    pending: &PendingOpen<T::Kind>,
     pinned: &T::Face,
 ) -> bool
     ensures { IsTrue result

@@ -13,10 +13,11 @@
 mod answer;
 mod asked;
 mod both;
-mod brought;
+mod drains;
 pub mod laws;
 mod parsed;
 mod parsing;
+mod pending;
 mod refusal;
 mod run;
 mod set;
@@ -24,10 +25,13 @@ mod uses;
 
 pub use answer::ParseAnswer;
 pub use both::{Both, calls_go_to_their_part};
-pub use brought::Brought;
+pub use drains::{
+    Drains, unnoticed_changes_leave_runs, unnoticed_changes_leave_steps, what_is_taken_is_unnoticed,
+};
 pub use ob_model::Reason;
 pub use parsed::Parsed;
 pub use parsing::Parsing;
+pub use pending::Pending;
 pub use refusal::Refusal;
 pub use run::{Outcome, a_parse_run_has_one_end, run_parse, same_faces_end_alike};
 pub use set::TypeSet;

@@ -4,11 +4,11 @@ ghost use Rattle.std.specs.Prelude.{◌≡◌, ◌↔◌, true, IsTrue};
 ghost use Rattle.std.specs.Option.{is_some};
 ghost use Rattle.std.specs.Arc.{arc_value};
 ghost use Rattle.ob_types.specs.Parsing.{outcome_of};
-ghost use Rattle.ob_types.specs.Brought.{run_of_end, IsTaken};
+ghost use Rattle.ob_types.specs.Pending.{run_of_end, IsTaken};
 ghost use Rattle.ob_types.specs.Parse.{asked_of, EndsOrWants, IsFor, IsRun};
 
 use crate::{Outcome, TypeSet, asked, same_faces_end_alike};
-use ob_model::{Bytes, Pending};
+use ob_model::{Bytes, PendingOpen};
 use std::alloc::Global;
 use std::marker::Model;
 use std::sync::Arc;
@@ -132,7 +132,7 @@ impl<T: TypeSet> Parsed<T> {
     /// Whether this is the parse that a pending open waits for, where the object that it pins has this face: the
     /// ticket and the rest are those of the open, and the faces are found the same. Then what it ended with is the
     /// end of the parse of the pinned object over the pending rest, whoever ran it.
-    pub fn is_for(&self, pending: &Pending<T::Kind>, face: &T::Face) -> bool
+    pub fn is_for(&self, pending: &PendingOpen<T::Kind>, face: &T::Face) -> bool
         ensures exact { IsTrue result
             ↔ IsFor T.procedures (asked_of self.now) pending.now face.now }
         ensures ends { IsTrue result

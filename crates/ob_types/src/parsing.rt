@@ -5,7 +5,7 @@ ghost use Rattle.std.specs.Arc.{arc_value};
 ghost use Rattle.ob_types.specs.Parse.{IsFor};
 
 use crate::{Outcome, Parsed, TypeSet, asked, run_parse};
-use ob_model::{Bytes, Pending};
+use ob_model::{Bytes, PendingOpen};
 use std::alloc::Global;
 use std::marker::Model;
 use std::sync::Arc;
@@ -90,7 +90,7 @@ impl<T: TypeSet> Parsing<T> {
 
     /// Whether this is the parse that a pending open waits for, where the object that it pins has this face: the
     /// ticket and the rest are those of the open, and the faces are found the same.
-    pub fn is_for(&self, pending: &Pending<T::Kind>, face: &T::Face) -> bool
+    pub fn is_for(&self, pending: &PendingOpen<T::Kind>, face: &T::Face) -> bool
         ensures { IsTrue result ↔ IsFor T.procedures self.now pending.now face.now }
     {
         asked::is_asked::<T>(self.ticket, &self.face, self.rest.as_slice(), pending, face)

@@ -1,4 +1,4 @@
--- What a viewer is told of a component in a directory.
+-- The object that a viewer finds under a component in a directory.
 --
 -- Source: this profile.
 use Rattle.std.specs.Prelude.{ℕ, Bool, List, Option}

@@ -44,7 +44,7 @@ impl<J: Naming> Viewer<J> {
         }
     }
 
-    /// What the viewer knows of.
+    /// The publications that the viewer knows of.
     pub fn known(&self) -> Published<J>
         ensures { result ≡ self.now }
     {
@@ -59,8 +59,8 @@ impl<J: Naming> Viewer<J> {
         self.known = self.known.longer(published);
     }
 
-    /// What a component, of any length and with any bytes, named in a directory after the latest publication that is
-    /// shown: the object of the entry with an equal name, with `fold` for equality without regard to case, and of several the
+    /// Looks a component up, of any length and with any bytes, in a directory as it was after the latest publication that is
+    /// shown: returns the object of the entry with an equal name, with `fold` for equality without regard to case, and of several the
     /// one that was inserted first; and the number of the last entry of the journal that is published. It takes
     /// no lock and waits for nobody, and takes no memory.
     ///
@@ -81,10 +81,10 @@ impl<J: Naming> Viewer<J> {
         ensures number { IfSome result (λ r. r.1 ≡ total_entries self.new) }
         ensures none { IfNone result (self.new ≡ self.old) }
 
-        // What holds of all publications that are made.
+        // An invariant of all publications.
         ensures leads { J.leads self.new }
     {
-        // What is known tells what holds of it.
+        // (its contract has the invariant of the publications)
         let _ = self.known.number();
         let reader = self.reader.take()?;
         match reader.enter_as::<Sees<J>>() {
@@ -101,7 +101,7 @@ impl<J: Naming> Viewer<J> {
     }
 }
 
-// What a component finds in the copy that is shown, unless this is older than what is known.
+// Looks a component up in the copy that is shown, unless it is older than the publications that are known.
 fn see<J: Naming>(
     known: &mut Published<J>,
     shown: &Shown,

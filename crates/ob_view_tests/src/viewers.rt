@@ -6,7 +6,7 @@ ghost use Rattle.ob_published.specs.declared.publication.Publication.{Publicatio
 use ob_base::ObjId;
 use ob_model::{Bytes, Row};
 use ob_published::{Naming, Opened, Publication, Showing};
-use ob_rows::RowChange;
+use ob_rows::{RowChange, RowTable};
 use ob_view::Viewer;
 use std::alloc::{AllocError, Global};
 use std::collections::VecDeque;
@@ -29,7 +29,7 @@ fn change(alloc: Global, turn: u64) -> Result<RowChange, AllocError> {
     }))
 }
 
-// What a turn publishes: three entries with one change.
+// The publication of a turn: three entries with one change.
 fn publication(alloc: Global, turn: u64) -> Result<Publication, AllocError> {
     let mut changes = VecDeque::new(alloc);
     let change = change(alloc, turn)?;
@@ -40,7 +40,27 @@ fn publication(alloc: Global, turn: u64) -> Result<Publication, AllocError> {
     })
 }
 
-// Publishes what a turn makes; how many entries are published then.
+// Two tables with no row.
+fn no_rows(alloc: Global) -> (RowTable, RowTable)
+    ensures { (result.0 ≡ []) × (result.1 ≡ []) }
+{
+    (RowTable::new(alloc), RowTable::new(alloc))
+}
+
+// Records the publication of a turn.
+fn records<J: Naming, R: Wait>(
+    alloc: Global,
+    showing: &mut Showing<J, &R>,
+    turn: u64,
+) -> Result<(), AllocError>
+    requires { (publications : List Made) → J.leads publications }
+{
+    showing
+        .record(publication(alloc, turn)?)
+        .map_err(|_| AllocError)
+}
+
+// Publishes the changes of a turn, and returns how many entries are published then.
 fn publishes<J: Naming, R: Wait>(
     alloc: Global,
     showing: &mut Showing<J, &R>,
@@ -48,7 +68,7 @@ fn publishes<J: Naming, R: Wait>(
 ) -> Result<u64, AllocError>
     requires { (publications : List Made) → J.leads publications }
 {
-    showing.record(publication(alloc, turn)?)?;
+    records(alloc, showing, turn)?;
     Ok(showing.show()?.number())
 }
 
@@ -124,7 +144,7 @@ fn waits_for_shown<J: Naming, R: Wait>(
 ) -> Result<bool, AllocError>
     requires { (publications : List Made) → J.leads publications }
 {
-    showing.record(publication(alloc, 1)?)?;
+    records(alloc, showing, 1)?;
     let behind = showing.is_behind() && showing.rows().len() == 1;
     let full = showing.record(publication(alloc, 2)?).is_err();
     let as_before = finds(viewer, false, Some(0), 3);
@@ -141,7 +161,7 @@ fn by_turns<J: Naming, R: Wait>(rt: &R, alloc: Global, opened: Opened) -> Result
     requires opening { J.opening ≡ [] }
     requires leads { (publications : List Made) → J.leads publications }
 {
-    let mut showing: Showing<J, &R> = Showing::open(alloc, rt, opened, &[], 1)?;
+    let mut showing: Showing<J, &R> = Showing::open(alloc, rt, opened, no_rows(alloc), 1)?;
     let mut viewer = Viewer::new(showing.seat()?);
     let sees = sees_shown(alloc, &mut showing, &mut viewer)?;
     Ok(sees && waits_for_shown(alloc, &mut showing, &mut viewer)?)
@@ -186,7 +206,7 @@ fn beside<J: Naming + Send + Sync, R: Threads + Wait + Sync>(
     requires opening { J.opening ≡ [] }
     requires leads { (publications : List Made) → J.leads publications }
 {
-    let mut showing: Showing<J, &R> = Showing::open(alloc, rt, opened, &[], 2)?;
+    let mut showing: Showing<J, &R> = Showing::open(alloc, rt, opened, no_rows(alloc), 2)?;
     let mut first = Viewer::new(showing.seat()?);
     let mut second = Viewer::new(showing.seat()?);
     let right = watched(rt, alloc, &mut showing, &mut first, &mut second);

@@ -14,6 +14,16 @@ pub struct ntns {
     pub words: [usize; 2],
 }
 
+/// An open that waits at a device or a key.
+#[repr(C)]
+#[derive(Debug, Clone, Copy, Default, PartialEq, Eq)]
+pub struct ntns_pending {
+    pub ticket: u64,
+    pub id: u64,
+    pub user_data: u64,
+    pub kind: u32,
+}
+
 /// A row of a listing.
 #[repr(C)]
 #[derive(Debug, Clone, Copy, Default, PartialEq, Eq)]
@@ -50,6 +60,7 @@ pub struct ntns_deletion {
 
 pub const NTNS_VERSION: u32 = 1;
 pub const NTNS_STATUS_SUCCESS: u32 = 0x00000000;
+pub const NTNS_STATUS_PENDING: u32 = 0x00000103;
 pub const NTNS_STATUS_MORE_ENTRIES: u32 = 0x00000105;
 pub const NTNS_STATUS_OBJECT_NAME_EXISTS: u32 = 0x40000000;
 pub const NTNS_STATUS_NO_MORE_ENTRIES: u32 = 0x8000001A;
@@ -125,6 +136,9 @@ unsafe extern "C" {
     pub fn ntns_open_directory(ns: *mut ntns, process: u32, root: u32, name: *const c_char, name_len: usize, attributes: u32, handle: *mut u32) -> ntns_status;
     pub fn ntns_open_link(ns: *mut ntns, process: u32, root: u32, name: *const c_char, name_len: usize, attributes: u32, handle: *mut u32) -> ntns_status;
     pub fn ntns_open_object(ns: *mut ntns, process: u32, root: u32, name: *const c_char, name_len: usize, attributes: u32, kind: u32, handle: *mut u32) -> ntns_status;
+    pub fn ntns_begin_open(ns: *mut ntns, process: u32, root: u32, name: *const c_char, name_len: usize, attributes: u32, kind: u32, handle: *mut u32, pending: *mut ntns_pending, rest: *mut c_char, capacity: usize, length: *mut usize) -> ntns_status;
+    pub fn ntns_end_open(ns: *mut ntns, ticket: u64, handle: *mut u32) -> ntns_status;
+    pub fn ntns_cancel_open(ns: *mut ntns, ticket: u64) -> ntns_status;
     pub fn ntns_close_handle(ns: *mut ntns, process: u32, handle: u32) -> ntns_status;
     pub fn ntns_duplicate(ns: *mut ntns, process: u32, handle: u32, to: u32, inherit: bool, copy: *mut u32) -> ntns_status;
     pub fn ntns_make_temporary(ns: *mut ntns, process: u32, handle: u32) -> ntns_status;

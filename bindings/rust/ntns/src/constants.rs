@@ -7,6 +7,7 @@ pub const VERSION: u32 = 1;
 
 impl Status {
     pub const SUCCESS: Status = Status(0x00000000);
+    pub const PENDING: Status = Status(0x00000103);
     pub const MORE_ENTRIES: Status = Status(0x00000105);
     pub const OBJECT_NAME_EXISTS: Status = Status(0x40000000);
     pub const NO_MORE_ENTRIES: Status = Status(0x8000001A);

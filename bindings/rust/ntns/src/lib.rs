@@ -118,6 +118,23 @@ pub struct Process<'a> {
     number: u32,
 }
 
+/// How an open in two phases began.
+#[derive(Debug)]
+pub enum Begun<'a> {
+    /// The name led through no device and no key, and this is the handle.
+    Opened(Handle<'a>),
+    /// The open is pending.
+    Pending(Pending<'a>),
+}
+
+/// An open that is pending at a device or a key, with the rest of its name. It is cancelled when it is dropped.
+pub struct Pending<'a> {
+    process: Process<'a>,
+    ticket: u64,
+    object: Object,
+    rest: String,
+}
+
 /// A handle, closed when it is dropped.
 pub struct Handle<'a> {
     process: Process<'a>,
@@ -232,6 +249,21 @@ impl<'a> Process<'a> {
         })
     }
 
+    /// `open_with` in two phases, so that a caller asks its file system or registry before it has a handle.
+    pub fn begin_open(self, kind: Type, name: impl AsRef<[u8]>, attributes: Attribute, root: Option<&Handle<'a>>) -> Result<Begun<'a>, Status> {
+        let (name, root) = (name.as_ref(), root.map_or(0, |root| self.own(root, "root")));
+        let (mut value, mut pending) = (0, raw::ntns_pending::default());
+        let rest = self.namespace.text(|space, buffer, capacity, length| unsafe {
+            let (text, size) = (name.as_ptr().cast(), name.len());
+            raw::ntns_begin_open(space, self.number, root, text, size, attributes.0, kind.0, &mut value, &mut pending, buffer, capacity, length)
+        })?;
+        let raw::ntns_pending { ticket, id, user_data, kind } = pending;
+        match ticket {
+            0 => Ok(Begun::Opened(self.adopt(value))),
+            _ => Ok(Begun::Pending(Pending { process: self, ticket, object: Object { kind: Type(kind), user_data, id }, rest })),
+        }
+    }
+
     /// A child, with the device map of this process and with `inherit` its handles that have INHERIT, under the same values.
     pub fn new_process(self, inherit: bool) -> Result<Process<'a>, Status> {
         let mut number = 0;
@@ -272,6 +304,31 @@ impl<'a> Process<'a> {
         let mut value = 0;
         self.namespace.call(|space| make(space, &mut value))?;
         Ok(self.adopt(value))
+    }
+}
+
+impl<'a> Pending<'a> {
+    /// The device or key at which it is pending.
+    pub fn object(&self) -> Object {
+        self.object
+    }
+
+    /// The part of the name that follows that object.
+    pub fn rest(&self) -> &str {
+        &self.rest
+    }
+
+    /// Opens the file or the key, or the key at which it is pending.
+    pub fn end(mut self) -> Result<Handle<'a>, Status> {
+        let ticket = std::mem::take(&mut self.ticket);
+        self.process.handle(|space, handle| unsafe { raw::ntns_end_open(space, ticket, handle) })
+    }
+}
+
+impl Drop for Pending<'_> {
+    fn drop(&mut self) {
+        // Where it was ended it has no ticket any more, and nothing is cancelled.
+        let _ = self.process.namespace.call(|space| unsafe { raw::ntns_cancel_open(space, self.ticket) });
     }
 }
 
@@ -482,6 +539,12 @@ impl fmt::Debug for Status {
 impl fmt::Debug for Type {
     fn fmt(&self, formatter: &mut fmt::Formatter<'_>) -> fmt::Result {
         write!(formatter, "{}", self.name().unwrap_or("any"))
+    }
+}
+
+impl fmt::Debug for Pending<'_> {
+    fn fmt(&self, formatter: &mut fmt::Formatter<'_>) -> fmt::Result {
+        write!(formatter, "Pending({}, {}, {:?})", self.process.number, self.ticket, self.rest)
     }
 }
 

@@ -1,6 +1,6 @@
 //! Calls of a namespace, each against what the library answers.
 
-use ntns::{Attribute, Deletion, Entry, Namespace, Object, Opened, Row, Status, Type};
+use ntns::{Attribute, Begun, Deletion, Entry, Namespace, Object, Opened, Row, Status, Type};
 
 #[test]
 fn a_file_on_a_device_is_opened_by_a_drive_and_deleted_with_its_process() -> Result<(), Status> {
@@ -185,4 +185,27 @@ fn a_handle_of_another_process_is_no_root() {
 fn a_handle_is_duplicated_within_its_namespace() {
     let (one, other) = (Namespace::open().unwrap(), Namespace::open().unwrap());
     let _ = one.process(1).directory().create_unnamed().unwrap().duplicate(other.process(1), false);
+}
+
+#[test]
+fn an_open_that_meets_a_device_is_ended_or_cancelled() -> Result<(), Status> {
+    let namespace = Namespace::open()?;
+    let system = namespace.process(1);
+    let disk = system.object(Type::DEVICE, 7).create(r"\Device\Disk")?;
+    let name = format!(r"\Device\Disk\{}", "x".repeat(300));
+    let Begun::Pending(pending) = system.begin_open(Type::FILE, &name, Attribute::default(), None)? else { panic!("it is opened") };
+    assert_eq!((pending.object(), pending.rest()), (disk.query()?, &name[12..]));
+    let file = pending.end()?;
+    assert_eq!((file.query()?.kind, file.file_text()?), (Type::FILE, name[12..].into()));
+    let Begun::Pending(pending) = system.begin_open(Type::EVENT, "x", Attribute::default(), Some(&disk))? else { panic!("it is opened") };
+    assert_eq!(pending.end().unwrap_err(), Status::OBJECT_TYPE_MISMATCH);
+    assert_eq!(namespace.deletions().count(), 1);
+    let pending = system.begin_open(Type::ANY, "x", Attribute::default(), Some(&disk))?;
+    drop(disk);
+    assert_eq!(namespace.deletions().count(), 0);
+    drop(pending);
+    assert_eq!(namespace.deletions().map(|deletion| deletion.kind).collect::<Vec<_>>(), [Type::DEVICE]);
+    let Begun::Opened(root) = system.begin_open(Type::ANY, r"\", Attribute::default(), None)? else { panic!("it is pending") };
+    assert_eq!(root.path()?, r"\");
+    Ok(())
 }

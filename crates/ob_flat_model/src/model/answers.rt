@@ -1,12 +1,12 @@
 //! The answers of the plain model to commands.
 
-use super::{Answer, Live, Model, Object};
+use super::{Answer, FlatObject, Live, Model};
 use crate::asks::{
-    Ask, CASE_INSENSITIVE, Deed, EXCLUSIVE, FLAGS, INHERIT, Kind, LARGEST_ROOM, OPENIF, OPENLINK,
-    Waiting, is_wanted,
+    Ask, CASE_INSENSITIVE, Deed, EXCLUSIVE, FLAGS, FlatKind, INHERIT, LARGEST_ROOM, OPENIF,
+    OPENLINK, Waiting, is_wanted,
 };
 use crate::model::lookup::Look;
-use crate::names::Name;
+use crate::names::FlatName;
 use ob_base::Status;
 use std::alloc::AllocError;
 
@@ -36,8 +36,8 @@ impl Model {
     fn named(
         &self,
         live: Live,
-        name: Option<Name>,
-        want: Option<Kind>,
+        name: Option<FlatName>,
+        want: Option<FlatKind>,
         attrs: u32,
         shadow: Option<u32>,
         makes: bool,
@@ -53,7 +53,7 @@ impl Model {
         };
         let look = Look {
             makes,
-            follows: !makes && attrs & OPENLINK == 0 && !matches!(want, Some(Kind::Link)),
+            follows: !makes && attrs & OPENLINK == 0 && !matches!(want, Some(FlatKind::Link)),
             folds: attrs & CASE_INSENSITIVE != 0,
         };
         let answer = self.found(live, name, shadow, look)?;
@@ -72,7 +72,7 @@ impl Model {
     pub(super) fn shadow_refusal(&self, live: Live, shadow: Option<u32>) -> Option<Status> {
         match self.behind(live.number, shadow?) {
             None => Some(Status::InvalidHandle),
-            Some(object) if !matches!(object.of, Kind::Directory) => {
+            Some(object) if !matches!(object.of, FlatKind::Directory) => {
                 Some(Status::ObjectTypeMismatch)
             }
             Some(object) => object.shadow.map(|_| Status::InvalidParameter),
@@ -80,7 +80,7 @@ impl Model {
     }
 
     // An open of an object, which is answered with a status.
-    fn granted(&self, process: u32, object: Object, attrs: u32, status: Status) -> Answer {
+    fn granted(&self, process: u32, object: FlatObject, attrs: u32, status: Status) -> Answer {
         let (inherit, exclusive) = (attrs & INHERIT != 0, attrs & EXCLUSIVE != 0);
         if (exclusive && !object.is_exclusive) || (inherit && object.is_exclusive) {
             Answer::Refused(Status::InvalidParameter)
@@ -103,11 +103,11 @@ impl Model {
             _ => return Answer::Refused(refusal),
         };
         match (deed, object.of) {
-            (Deed::List(part), Kind::Directory) => {
+            (Deed::List(part), FlatKind::Directory) => {
                 let page = self.page(live, object.number, part);
                 Answer::Found(object, page.status)
             }
-            (Deed::Map, Kind::Directory) | (Deed::Target, Kind::Link) => {
+            (Deed::Map, FlatKind::Directory) | (Deed::Target, FlatKind::Link) => {
                 Answer::Found(object, Status::Success)
             }
             (Deed::List(_) | Deed::Map | Deed::Target, _) => {

@@ -1,8 +1,8 @@
 //! Lookups, as the plain model makes them.
 
-use super::{Answer, GLOBAL, Live, Model, Object, ROOT, Spot};
-use crate::asks::Kind;
-use crate::names::{Name, Path, letters};
+use super::{Answer, FlatObject, GLOBAL, Live, Model, ROOT, Spot};
+use crate::asks::FlatKind;
+use crate::names::{FlatName, FlatPath, letters};
 use ob_base::Status;
 use std::alloc::AllocError;
 
@@ -25,13 +25,13 @@ pub(super) struct Look {
 #[derive(Clone, Copy)]
 enum Step<'a> {
     In(u32),
-    Through(Path, &'a [u8]),
+    Through(FlatPath, &'a [u8]),
     End(Answer),
 }
 
 impl Model {
     // The object that has its name in a directory under a letter: of several the first that was named.
-    fn entry(&self, directory: u32, letter: u8, folds: bool) -> Option<Object> {
+    fn entry(&self, directory: u32, letter: u8, folds: bool) -> Option<FlatObject> {
         for object in &self.objects {
             if let Some(spot) = object.spot
                 && spot.directory == directory
@@ -45,7 +45,7 @@ impl Model {
 
     // The object that is seen in a directory under a letter: what has its name there, or else, where more than own
     // entries is asked for, in its shadow.
-    fn seen(&self, directory: u32, letter: u8, own: bool, folds: bool) -> Option<Object> {
+    fn seen(&self, directory: u32, letter: u8, own: bool, folds: bool) -> Option<FlatObject> {
         match self.entry(directory, letter, folds) {
             None if !own => self.entry(self.numbered(directory)?.shadow?, letter, folds),
             entry => entry,
@@ -57,7 +57,7 @@ impl Model {
     pub(super) fn found(
         &self,
         live: Live,
-        name: Name,
+        name: FlatName,
         shadow: Option<u32>,
         look: Look,
     ) -> Result<Answer, AllocError> {
@@ -73,7 +73,7 @@ impl Model {
         }
         let mut start = None;
         if let Some(root) = root {
-            if !matches!(root.of, Kind::Directory) {
+            if !matches!(root.of, FlatKind::Directory) {
                 return Ok(Answer::Refused(Status::ObjectTypeMismatch));
             }
             start = Some(root.number);
@@ -133,10 +133,15 @@ impl Model {
             return Step::End(missing(at, letter, rest.is_empty(), look.makes));
         };
         match object.of {
-            Kind::Link if !rest.is_empty() || look.follows => Step::Through(object.target, rest),
-            Kind::Device if !look.makes => { Step::End(Answer::Waits(matches!(rest, [] | [b'p']))) }
+            FlatKind::Link if !rest.is_empty() || look.follows => Step::Through(
+                object.target,
+                rest,
+            ),
+            FlatKind::Device if !look.makes => {
+                Step::End(Answer::Waits(matches!(rest, [] | [b'p'])))
+            }
             _ if rest.is_empty() => Step::End(Answer::Found(object, Status::Success)),
-            Kind::Directory => Step::In(object.number),
+            FlatKind::Directory => Step::In(object.number),
             _ => Step::End(Answer::Refused(Status::ObjectTypeMismatch)),
         }
     }

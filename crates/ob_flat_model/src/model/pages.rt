@@ -1,7 +1,7 @@
 //! Pages of directories, as the plain model has them.
 
-use super::{Live, Model, Object};
-use crate::asks::{Kind, Part, type_name};
+use super::{FlatObject, Live, Model};
+use crate::asks::{FlatKind, FlatPart, type_name};
 use crate::names::spelled;
 use ob_base::Status;
 use ob_model::{Given, Listed};
@@ -18,7 +18,7 @@ pub(super) struct Page {
 impl Model {
     // The page of a directory that a process is shown. An entry takes 4 bytes, and the lengths of its name and of its
     // type's name.
-    pub(super) fn page(&self, live: Live, directory: u32, part: Part) -> Page {
+    pub(super) fn page(&self, live: Live, directory: u32, part: FlatPart) -> Page {
         let start = match part.restart {
             true => 0,
             false => live.context,
@@ -67,7 +67,7 @@ impl Model {
         &mut self,
         process: u32,
         directory: u32,
-        part: Part,
+        part: FlatPart,
         given: &Given,
     ) -> bool {
         let (Given::Page { entries, context }, Some(live)) = (given, self.live(process)) else {
@@ -80,7 +80,7 @@ impl Model {
 }
 
 // How the name of an object is spelled, where it is in a directory after a stamp.
-fn shown(object: Object, directory: u32, stamp: u64) -> Option<&'static [u8]> {
+fn shown(object: FlatObject, directory: u32, stamp: u64) -> Option<&'static [u8]> {
     match object.spot {
         Some(spot) if spot.directory == directory && object.stamp > stamp => {
             Some(spelled(spot.letter))
@@ -90,6 +90,6 @@ fn shown(object: Object, directory: u32, stamp: u64) -> Option<&'static [u8]> {
 }
 
 // Whether an entry is shown by this name, as one of this kind.
-fn is_listed(listed: &Listed, name: &[u8], of: Kind) -> bool {
+fn is_listed(listed: &Listed, name: &[u8], of: FlatKind) -> bool {
     listed.name.as_slice() == name && listed.type_name.as_str() == type_name(of)
 }

@@ -1,6 +1,6 @@
 -- Where the end of the report isn't written, a beginning of the whole is.
 use Rattle.std.proofs.Common.{subst}
-use Rattle.ob_streams.specs.Writing.{AppendsFront}
+use Rattle.ob_output.specs.Writing.{AppendsFront}
 use Rattle.ob_check.proofs.Reported.{report_part}
 use Rattle.ob_check.proofs.check.check_script.Goals as goal
 

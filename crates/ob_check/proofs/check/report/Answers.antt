@@ -1,5 +1,5 @@
 -- Room is made first; where the block isn't written, a beginning of it is.
-use Rattle.ob_streams.proofs.Writers.{at_err, front-append}
+use Rattle.ob_output.proofs.Writers.{at_err, front-append}
 use Rattle.ob_check.proofs.check.report.Goals as goal
 
 pub returns-in_err-make_room-clause-front : goal.returns-in_err-make_room-clause-front

@@ -1,6 +1,6 @@
 -- Each line is reported, or is right, behind those before it.
 use Rattle.std.proofs.Common.{arith}
-use Rattle.ob_streams.proofs.Writers.{at_err}
+use Rattle.ob_output.proofs.Writers.{at_err}
 use Rattle.ob_check.proofs.Reported.{so_far_part, so_far_right, so_far_wrong}
 use Rattle.ob_check.proofs.check.report_lines.Goals as goal
 

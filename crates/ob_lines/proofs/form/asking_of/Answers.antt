@@ -1,4 +1,4 @@
--- Behind the process word, of which there is one reading, the request is missing, and what is asked of an open that waits.
+-- Behind the process variable, of which there is one reading, the request is missing, and what is asked of an open that waits.
 use Rattle.ob_lines.proofs.Formed.{asks_rest, waits_rest}
 use Rattle.ob_lines.proofs.form.asking_of.Goals as goal
 

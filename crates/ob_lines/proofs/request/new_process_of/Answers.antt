@@ -1,4 +1,4 @@
--- Behind the inheritance, of which there is one reading, no process word is set.
+-- Behind the inheritance, of which there is one reading, no process variable is set.
 use Rattle.ob_parts.specs.Parts.{SetsProcess}
 use Rattle.ob_parts.proofs.Parted.{moved}
 use Rattle.ob_parts.proofs.Processed.{inherit_alike}

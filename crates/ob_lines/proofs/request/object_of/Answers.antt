@@ -1,5 +1,5 @@
 -- Behind the kind, of which there is one reading, the rest is missing.
-use Rattle.ob_parts.specs.Parts.{IsPlaceFlagsTextAndWord}
+use Rattle.ob_parts.specs.Parts.{IsPlaceFlagsTextAndVariable}
 use Rattle.ob_parts.proofs.Parted.{moved, kind_alike}
 use Rattle.ob_lines.proofs.request.object_of.Goals as goal
 
@@ -8,4 +8,4 @@ returns-in_err-place-clause-none c =
     rw c.from_residual-in_err-place.ensures
     (λ k p a t w s.
     c.in_err-place.ensures.none p a t w
-    (moved (λ x. IsPlaceFlagsTextAndWord x p a t w) _ _ (kind_alike _ _ _ k s.0 c.in_ok-kind.ensures.found s.1).1 s.2))
+    (moved (λ x. IsPlaceFlagsTextAndVariable x p a t w) _ _ (kind_alike _ _ _ k s.0 c.in_ok-kind.ensures.found s.1).1 s.2))

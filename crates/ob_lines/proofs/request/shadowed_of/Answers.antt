@@ -1,5 +1,5 @@
 -- Behind parts of which there is one reading the next one is missing.
-use Rattle.ob_parts.specs.Parts.{BeginsWithPlace, IsFlagsAndWord}
+use Rattle.ob_parts.specs.Parts.{BeginsWithPlace, IsFlagsAndVariable}
 use Rattle.ob_parts.proofs.Parted.{moved, place_alike}
 use Rattle.ob_parts.proofs.Processed.{handle_first_alike}
 use Rattle.ob_lines.proofs.request.shadowed_of.Goals as goal
@@ -20,4 +20,4 @@ returns-in_err-attrs-clause-none c =
     (λ h p a w s.
     let handle = handle_first_alike _ _ _ h s.0 c.in_ok-shadow.ensures.found s.2 in
     let place = place_alike _ _ _ p s.1 c.in_ok-place.ensures.found (moved (λ x. BeginsWithPlace x p s.1) _ _ handle.1 s.3) in
-    c.in_err-attrs.ensures.none a w (moved (λ x. IsFlagsAndWord x a w) _ _ place.1 s.4))
+    c.in_err-attrs.ensures.none a w (moved (λ x. IsFlagsAndVariable x a w) _ _ place.1 s.4))

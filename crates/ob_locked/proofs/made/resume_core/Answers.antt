@@ -1,5 +1,5 @@
 -- What a resume answers wants no memory, and its open waits no longer.
-use Rattle.ob_types.specs.Brought.{run_of_end}
+use Rattle.ob_types.specs.Pending.{run_of_end}
 use Rattle.ob_locked.proofs.Starts.{ended_then, plain_then}
 use Rattle.ob_locked.proofs.made.resume_core.Goals as goal
 

@@ -4,7 +4,7 @@ use Rattle.ob_model.specs.State.{State}
 use Rattle.ob_model.specs.Looks as machine
 use Rattle.ob_devmap.specs.View.{IsViewOf}
 use Rattle.ob_objects.specs.Store.{Shows}
-use Rattle.ob_lookup.specs.Cache.{ArePaths}
+use Rattle.ob_lookup.specs.Prefixes.{ArePaths}
 use Rattle.ob_lookup.specs.Look.{turn_of, MayWantMemory, IfAgain, Goes}
 use Rattle.ob_lookup.proofs.cached.look_cached.Given as goal
 

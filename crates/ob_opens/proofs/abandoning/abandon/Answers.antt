@@ -6,7 +6,7 @@ use Rattle.ob_model.specs.Parses.{Abandons}
 use Rattle.ob_model.specs.PendingOpens.{pending_of, without_pending}
 use Rattle.ob_model.specs.Procedures.{EndsMade}
 use Rattle.ob_model.specs.Settle.{settle}
-use Rattle.ob_types.specs.Brought.{brought as end_of}
+use Rattle.ob_types.specs.Pending.{brought as end_of}
 use Rattle.ob_opens.specs.Waiting.{made_in}
 use Rattle.ob_opens.proofs.Abandoned.{with_inner, nothing_made_there, instance_made}
 use Rattle.ob_opens.proofs.abandoning.abandon.Goals as goal

@@ -3,7 +3,7 @@ use Rattle.std.proofs.Common.{◌∙◌, Some, ap, refl, sym, subst, false, IsTr
 use Rattle.std.specs.Option.{option_copied}
 use Rattle.ob_model.specs.PendingOpens.{pending_of}
 use Rattle.ob_types.specs.Parse.{asked_of, IsFor}
-use Rattle.ob_types.specs.Brought.{run_of, brought as end_of}
+use Rattle.ob_types.specs.Pending.{run_of, brought as end_of}
 use Rattle.ob_opens.proofs.Abandoned.{none_pending, none_stored, none_of_set, awaits_it, is_for, faced, comes}
 use Rattle.ob_opens.proofs.FoundOpen.{found_open}
 use Rattle.ob_opens.proofs.awaited.is_awaited.Goals as goal

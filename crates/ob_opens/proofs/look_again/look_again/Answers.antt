@@ -19,7 +19,7 @@ use Rattle.ob_lookup.specs.Look.{MayWantMemory}
 use Rattle.ob_model.specs.Procedures.{EndsReparse}
 use Rattle.ob_model.specs.Opens.{open_mode, options_by}
 use Rattle.ob_model.specs.declared.terms.Mode.{Mode}
-use Rattle.ob_model.specs.declared.state.Pending.{Pending}
+use Rattle.ob_model.specs.declared.state.PendingOpen.{PendingOpen}
 use Rattle.ob_opens.proofs.look_again.look_again.Goals as goal
 
 pub returns-then-not-is_live-clause-resumed : goal.returns-then-not-is_live-clause-resumed
@@ -80,7 +80,7 @@ returns-in_err-open_found-in-At-clause-early g c =
     never (passes_brought g.T.TypeSet.procedures s c.args.ticket x (Some (EndsReparse c.args.text)) found (sym c.is_live.ensures ∙ c.if-not-is_live.false)
     (passes_again g.T.TypeSet.procedures u x.process (open_mode x.wanted x.attrs) c.args.text (is_open_refused_at g.T.TypeSet.procedures u x.process x.attrs x.wanted) (open_ignores g.T.TypeSet.procedures u x.process x.attrs x.wanted) look
     (isnt (λ refused. c.in_err-open_found-in-At.ensures.early
-    (rw c.look_up_again.ensures.unchanged (subst (λ (o : Option (Pending _)). MatchOption o ⊥ (λ y. is_refused_at g.T.TypeSet.procedures s y.process (options_by y.attrs) y.wanted c.in-At.object ≡ true)) (sym found) refused))))
+    (rw c.look_up_again.ensures.unchanged (subst (λ (o : Option (PendingOpen _)). MatchOption o ⊥ (λ y. is_refused_at g.T.TypeSet.procedures s y.process (options_by y.attrs) y.wanted c.in-At.object ≡ true)) (sym found) refused))))
     (no_refusal_at c.in-At.object) x.left
     (subst (λ (m : Mode). LooksAgain g.T.TypeSet.procedures u x.process m x.left c.args.text look) c.mode_of_open-mode.ensures
     (subst (λ look. LooksAgain g.T.TypeSet.procedures u x.process c.mode_of_open-mode.result x.left c.args.text (look_of look)) c.in-At.is (c.in_ok-status.ensures.end x.ticket)))))

@@ -12,7 +12,7 @@ use Rattle.ob_opens.proofs.OpensAgain.{found_other_type, found_refused, found_gi
 use Rattle.ob_opens.proofs.Refusing.{passes_at}
 use Rattle.ob_space.specs.Found.{is_grant_refused, is_refused_at}
 use Rattle.ob_model.specs.Opens.{options_by}
-use Rattle.ob_model.specs.declared.state.Pending.{Pending}
+use Rattle.ob_model.specs.declared.state.PendingOpen.{PendingOpen}
 use Rattle.ob_model.specs.declared.terms.GrantOptions.{GrantOptions}
 use Rattle.ob_opens.proofs.reparse.open_found.Goals as goal
 
@@ -70,5 +70,5 @@ returns-in_err-value-clause-early g c = λ refused.
     let x = c.in-Some.pending.now in
     never (passes_at g.T.TypeSet.procedures s x.process c.args.object (options_by x.attrs) x.wanted (sym c.is_wanted_at.ensures ∙ c.if-not-is_wanted_at.false)
     (subst (λ (q : GrantOptions). is_grant_refused s x.process c.args.object q ≡ true → ⊥) c.options_by-options.ensures (isnt c.in_err-value.ensures.early)))
-    (subst (λ (o : Option (Pending _)). MatchOption o ⊥ (λ y. is_refused_at g.T.TypeSet.procedures s y.process (options_by y.attrs) y.wanted c.args.object ≡ true))
+    (subst (λ (o : Option (PendingOpen _)). MatchOption o ⊥ (λ y. is_refused_at g.T.TypeSet.procedures s y.process (options_by y.attrs) y.wanted c.args.object ≡ true))
     (found_open c.space.view_is c.args.ticket _ c.in-Some.ensures) refused)

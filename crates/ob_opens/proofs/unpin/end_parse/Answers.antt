@@ -1,6 +1,6 @@
 -- Nothing is pending under the ticket, or only what the open pinned can go.
 use Rattle.std.proofs.Common.{List, ◌∙◌, sym, subst}
-use Rattle.ob_model.specs.declared.state.Pending.{Pending}
+use Rattle.ob_model.specs.declared.state.PendingOpen.{PendingOpen}
 use Rattle.ob_model.specs.Settle.{IsSettled}
 use Rattle.ob_life.specs.Settling.{with_handle_to}
 use Rattle.ob_space.specs.Namespace.{parts, state_of}
@@ -33,5 +33,5 @@ settle_after_loss-requires-clause-shadows g c κs within =
 pub settle_after_loss-requires-clause-kept : goal.settle_after_loss-requires-clause-kept
 settle_after_loss-requires-clause-kept g c κs within =
     let s = state_of g.row.T-Kind.Denot (parts c.space.inside) in
-    subst (λ (xs : List (Pending g.row.T-Kind.Denot)). IsSettled (with_handle_to (record s { pending = xs }) c.in_ok-pending.pending.object)) (sym c.take.ensures.others)
+    subst (λ (xs : List (PendingOpen g.row.T-Kind.Denot)). IsSettled (with_handle_to (record s { pending = xs }) c.in_ok-pending.pending.object)) (sym c.take.ensures.others)
     (held_in_place s c.args.ticket c.in_ok-pending.pending c.len.ensures.rising (sym c.take.ensures.there ∙ c.in_ok-pending.was) (rw (← c.space.view_is) at c.requires.settled))

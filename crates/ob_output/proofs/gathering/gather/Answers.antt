@@ -1,5 +1,5 @@
 -- Room is made first; where that isn't written, a beginning of the block stands.
-use Rattle.ob_streams.proofs.Writers.{at_err, front-append}
+use Rattle.ob_output.proofs.Writers.{at_err, front-append}
 use Rattle.ob_output.proofs.Gathered.{gathers_room}
 use Rattle.ob_output.proofs.gathering.gather.Goals as goal
 

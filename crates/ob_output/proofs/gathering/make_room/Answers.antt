@@ -1,7 +1,7 @@
 -- Where there is no room, the block is written whole and emptied, or a beginning of it stands.
 use Rattle.std.proofs.Common.{subst}
-use Rattle.ob_streams.specs.Writing.{AppendsFront}
-use Rattle.ob_streams.proofs.Writers.{at_err}
+use Rattle.ob_output.specs.Writing.{AppendsFront}
+use Rattle.ob_output.proofs.Writers.{at_err}
 use Rattle.ob_output.proofs.gathering.make_room.Goals as goal
 
 pub returns-in_err-write_out-clause-front : goal.returns-in_err-write_out-clause-front

@@ -1,4 +1,4 @@
--- What was asked for, and what is left, are what was asked for and left before; each turn leaves a change less.
+-- The steps asked for with the changes left are the same as before; each turn leaves one change less.
 use Rattle.std.proofs.Common.{◌≡◌, ◌++◌, drop, length, map}
 use Rattle.ob_published.specs.declared.shown.Op.TheVariants.{Change}
 use Rattle.ob_published.proofs.showing.append_changes.Given as goal

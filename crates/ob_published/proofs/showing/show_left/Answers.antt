@@ -1,4 +1,4 @@
--- However far it came, what is asked for and left leads to the same rows.
+-- Wherever memory ran out, the steps asked for and the changes left lead to the same rows.
 use Rattle.std.proofs.Common.{◌∙◌, ◌++◌, List, ap, drop, map, sym}
 use Rattle.ob_published.specs.declared.shown.Op.{Op}
 use Rattle.ob_published.specs.declared.shown.Op.TheVariants.{Change}

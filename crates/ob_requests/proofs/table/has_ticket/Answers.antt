@@ -11,4 +11,4 @@ loop-slot-preserved c =
 
 pub returns : goal.returns
 returns c =
-    λ none word. swept_all HasNoTicket no_row refl c.loop-slot.slot c.args.table.now.entries c.args.table.now.entries (omega arith) c.loop-slot.invariant word
+    λ none variable. swept_all HasNoTicket no_row refl c.loop-slot.slot c.args.table.now.entries c.args.table.now.entries (omega arith) c.loop-slot.invariant variable

@@ -32,10 +32,10 @@ loop-slot-preserved g c = elim c.if-not-test.branch [
 
 pub returns-clause-kept : goal.returns-clause-kept
 returns-clause-kept g c =
-    λ word. (swept_all (IsRowKept (λ number passed. goal.P-post g c.args.test number passed)) no_row (none_kept (λ number passed. goal.P-post g c.args.test number passed))
-    c.loop-slot.slot c.args.table.now.entries c.loop-slot.table.entries (omega (arith, c.loop-slot-test.false, c.loop-slot.invariant.1)) c.loop-slot.invariant.0 word).0
+    λ variable. (swept_all (IsRowKept (λ number passed. goal.P-post g c.args.test number passed)) no_row (none_kept (λ number passed. goal.P-post g c.args.test number passed))
+    c.loop-slot.slot c.args.table.now.entries c.loop-slot.table.entries (omega (arith, c.loop-slot-test.false, c.loop-slot.invariant.1)) c.loop-slot.invariant.0 variable).0
 
 pub returns-clause-others : goal.returns-clause-others
 returns-clause-others g c =
-    λ word. let went = swept_all (IsRowKept (λ number passed. goal.P-post g c.args.test number passed)) no_row (none_kept (λ number passed. goal.P-post g c.args.test number passed))
-    c.loop-slot.slot c.args.table.now.entries c.loop-slot.table.entries (omega (arith, c.loop-slot-test.false, c.loop-slot.invariant.1)) c.loop-slot.invariant.0 word in (went.1, went.2)
+    λ variable. let went = swept_all (IsRowKept (λ number passed. goal.P-post g c.args.test number passed)) no_row (none_kept (λ number passed. goal.P-post g c.args.test number passed))
+    c.loop-slot.slot c.args.table.now.entries c.loop-slot.table.entries (omega (arith, c.loop-slot-test.false, c.loop-slot.invariant.1)) c.loop-slot.invariant.0 variable in (went.1, went.2)

@@ -20,5 +20,5 @@ loop-slot-preserved c = (
 
 pub returns : goal.returns
 returns c =
-    λ word. swept_all (IsWritten c.args.write) no_row (sym c.requires) c.loop-slot.slot c.args.table.now.entries c.loop-slot.table.entries
-    (omega (arith, c.loop-slot-test.false, c.loop-slot.invariant.1)) c.loop-slot.invariant.0 word
+    λ variable. swept_all (IsWritten c.args.write) no_row (sym c.requires) c.loop-slot.slot c.args.table.now.entries c.loop-slot.table.entries
+    (omega (arith, c.loop-slot-test.false, c.loop-slot.invariant.1)) c.loop-slot.invariant.0 variable

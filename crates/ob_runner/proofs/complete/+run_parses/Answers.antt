@@ -3,7 +3,7 @@ use Rattle.std.proofs.Common.{◌<◌, rules, refl, [], ◌∷◌, inr}
 use Rattle.ob_model.specs.declared.reply.Answer.TheVariants.{Done, Ticket}
 use Rattle.ob_model.specs.declared.reply.Event.TheVariants.{Resume}
 use Rattle.ob_model.specs.Step.{Step}
-use Rattle.ob_types.specs.Brought.{run_of_end}
+use Rattle.ob_types.specs.Pending.{run_of_end}
 use Rattle.ob_runner.proofs.Brought.{its_step, brought_has_run, ok_more, err_more, is_awaited, gives_up_at_once}
 use Rattle.ob_runner.proofs.Fewer.{left_to, step_leaves_fewer}
 use Rattle.ob_runner.proofs.complete.+run_parses.Goals as goal

@@ -2,7 +2,7 @@
 use Rattle.std.proofs.Common.{◌∙◌, refl, ap, subst}
 use Rattle.ob_model.specs.declared.reply.Event.TheVariants.{Resume}
 use Rattle.ob_model.specs.Step.{Step}
-use Rattle.ob_types.specs.Brought.{run_of_end}
+use Rattle.ob_types.specs.Pending.{run_of_end}
 use Rattle.ob_runner.specs.Completes.{GivesUp}
 use Rattle.ob_runner.proofs.Brought.{brought_has_run, ok_more, err_more}
 use Rattle.ob_runner.specs.Begun.{answer_in, with_begun}

@@ -6,7 +6,7 @@ use Rattle.ob_model.specs.declared.reply.Event.TheVariants.{Resume, Abandon}
 use Rattle.ob_model.specs.declared.reply.ParseRun.TheVariants.{Unrun}
 use Rattle.ob_model.specs.Refusals.{answers}
 use Rattle.ob_model.specs.Step.{Step}
-use Rattle.ob_types.specs.Brought.{run_of_end}
+use Rattle.ob_types.specs.Pending.{run_of_end}
 use Rattle.ob_types.specs.Parse.{asked_of}
 use Rattle.ob_opens.specs.Waiting.{IsParseOf}
 use Rattle.ob_runner.proofs.Brought.{its_step, brought_has_run, err_more}

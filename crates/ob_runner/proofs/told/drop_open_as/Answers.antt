@@ -4,7 +4,7 @@ use Rattle.ob_base.specs.declared.status.Status.TheVariants.{Success}
 use Rattle.ob_model.specs.declared.reply.Event.TheVariants.{Abandon}
 use Rattle.ob_model.specs.Refusals.{answers}
 use Rattle.ob_model.specs.Step.{Step}
-use Rattle.ob_types.specs.Brought.{run_of, run_of_end, brought as end_of}
+use Rattle.ob_types.specs.Pending.{run_of, run_of_end, brought as end_of}
 use Rattle.ob_runner.proofs.Beside.{abandoned_await, brought_awaits, found_awaits}
 use Rattle.ob_runner.proofs.told.drop_open_as.Goals as goal
 

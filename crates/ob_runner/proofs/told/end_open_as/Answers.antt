@@ -4,7 +4,7 @@ use Rattle.ob_base.specs.declared.status.Status.TheVariants.{Success}
 use Rattle.ob_model.specs.declared.reply.Event.TheVariants.{Resume, Abandon}
 use Rattle.ob_model.specs.Refusals.{answers}
 use Rattle.ob_model.specs.Step.{Step}
-use Rattle.ob_types.specs.Brought.{run_of_end}
+use Rattle.ob_types.specs.Pending.{run_of_end}
 use Rattle.ob_types.specs.Parse.{asked_of}
 use Rattle.ob_runner.specs.Completes.{GivesUp}
 use Rattle.ob_runner.proofs.Brought.{ok_more, err_more}

@@ -1,6 +1,6 @@
 -- The lines were played, and what waited was given up.
 use Rattle.std.proofs.Common.{◌≡◌, ◌++◌, IfErr, OnOk, subst}
-use Rattle.ob_requests.specs.Tables.{words_in}
+use Rattle.ob_requests.specs.Tables.{variables_in}
 use Rattle.ob_worker_lines.specs.Parts.{lines_in}
 use Rattle.ob_seats.specs.Received.{Entries}
 use Rattle.ob_seats.specs.Played.{ArePlayed}
@@ -13,18 +13,18 @@ pub returns-in-Ok-clause-played : goal.returns-in-Ok-clause-played
 returns-in-Ok-clause-played g c =
     let rs = g.C.Callers.receipts c.args.pass in
     let rs' = g.C.Callers.receipts c.run_part-pass.result.0 in
-    let behind = words_in c.run_part-pass.new.self.words in
-    seat_played (lines_in c.args.part) (words_in c.args.seat.words) behind rs rs' (g.C.Callers.receipts c.end-pass.result.0)
-    (subst (λ r. OnOk r ((entries : Entries) × (rs' ≡ rs ++ entries) × ArePlayed (lines_in c.args.part) (words_in c.args.seat.words) entries behind)) c.in-Ok.is c.run_part-pass.ensures.played)
+    let behind = variables_in c.run_part-pass.new.self.variables in
+    seat_played (lines_in c.args.part) (variables_in c.args.seat.variables) behind rs rs' (g.C.Callers.receipts c.end-pass.result.0)
+    (subst (λ r. OnOk r ((entries : Entries) × (rs' ≡ rs ++ entries) × ArePlayed (lines_in c.args.part) (variables_in c.args.seat.variables) entries behind)) c.in-Ok.is c.run_part-pass.ensures.played)
     (c.end-pass.ensures.given_up c.if-is_whole.true)
 
 pub returns-in-Err-clause-stopped : goal.returns-in-Err-clause-stopped
 returns-in-Err-clause-stopped g c =
     let rs = g.C.Callers.receipts c.args.pass in
     let rs' = g.C.Callers.receipts c.run_part-pass.result.0 in
-    let left = words_in c.run_part-pass.new.self.words in
+    let left = variables_in c.run_part-pass.new.self.variables in
     part_stopped (λ (fault : Fault). g.C.Callers.gives_fault c.run_part-pass.result.0 fault) (λ (fault : Fault). (last : g.row.C-Pass.Denot) × g.C.Callers.gives_fault last fault) (λ fault known. (c.run_part-pass.result.0, known))
-    c.args.part.first (lines_in c.args.part) (words_in c.args.seat.words) left c.in-Err.stopped rs rs' (g.C.Callers.receipts c.end-pass.result.0)
+    c.args.part.first (lines_in c.args.part) (variables_in c.args.seat.variables) left c.in-Err.stopped rs rs' (g.C.Callers.receipts c.end-pass.result.0)
     (subst (λ r. IfErr r (λ stopped. (entries : Entries) × (rs' ≡ rs ++ entries) × IsPartStopped (λ (fault : Fault). g.C.Callers.gives_fault c.run_part-pass.result.0 fault) c.args.part.first (lines_in c.args.part)
-    (words_in c.args.seat.words) entries stopped left)) c.in-Err.is c.run_part-pass.ensures.stopped)
+    (variables_in c.args.seat.variables) entries stopped left)) c.in-Err.is c.run_part-pass.ensures.stopped)
     c.end-pass.ensures.let_go

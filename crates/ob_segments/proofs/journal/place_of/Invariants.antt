@@ -1,6 +1,6 @@
 use Rattle.std.proofs.Common.{◌≤◌, ◌<◌, ◌-◌, length, map, take}
 use Rattle.std.specs.Arc.{arc_value}
-use Rattle.ob_journal.specs.Segments.{joined}
+use Rattle.ob_entries.specs.Segments.{joined}
 use Rattle.ob_segments.proofs.journal.place_of.Given as goal
 
 abbrev pub invariant-loop-high : goal.invariant-loop-high

@@ -1,7 +1,7 @@
--- What the block has is written behind what was.
+-- What the block has is written after what was.
 use Rattle.std.proofs.Common.{Result, Ok, Err, IfErr, subst}
 use Rattle.std.specs.Io.KnownBytes.{Appends}
-use Rattle.ob_streams.specs.Writing.{AppendsFront}
+use Rattle.ob_output.specs.Writing.{AppendsFront}
 use Rattle.ob_output.proofs.Gathered.{gathers_out, gathers_out_front}
 use Rattle.ob_session.proofs.session.write_answer.Goals as goal
 

@@ -5,8 +5,8 @@ use Rattle.std.proofs.lemmas.List.{take_all}
 use Rattle.std.specs.Arc.{arc_value}
 use Rattle.std.specs.Io.KnownBytes.{Appends}
 use Rattle.std.proofs.KnownBytes.{Appends-trans}
-use Rattle.ob_journal.specs.Lines.{journal_lines, segment_lines}
-use Rattle.ob_journal.specs.Segments.{Segment}
+use Rattle.ob_entries.specs.Lines.{journal_lines, segment_lines}
+use Rattle.ob_entries.specs.Segments.{Segment}
 use Rattle.ob_standard.specs.Standard.{StandardKind}
 use Rattle.ob_threads.specs.Written.{IsCutOff}
 use Rattle.ob_threads.proofs.CutOff.{type_name, cut_behind, journal_more, journal_open, journal_split, last_cut, last_written, mapped_at}

@@ -2,11 +2,11 @@
 use Rattle.std.proofs.Common.{◌≡◌, ◌∙◌, [], ◌++◌, List, ◌<◌, ◌≤◌, length, get_or, suc, take, drop, ap, refl, subst}
 use Rattle.std.specs.Io.KnownBytes.{Appends}
 use Rattle.std.proofs.KnownBytes.{Appends-nil, Appends-trans}
-use Rattle.ob_journal.specs.Lines.{entry_line, entry_lines, header_line, segment_lines}
-use Rattle.ob_journal.specs.Segments.{Segment}
+use Rattle.ob_entries.specs.Lines.{entry_line, entry_lines, header_line, segment_lines}
+use Rattle.ob_entries.specs.Segments.{Segment}
 use Rattle.ob_model.specs.Run.{Entry}
 use Rattle.ob_standard.specs.Standard.{StandardKind, standard}
-use Rattle.ob_streams.specs.Writing.{AppendsFront}
+use Rattle.ob_output.specs.Writing.{AppendsFront}
 use Rattle.ob_threads.proofs.CutOff.{type_name, cut_by, wants, line_ends, segment_split, segment_more, all_taken}
 use Rattle.ob_threads.proofs.journal.write_segment.Goals as goal
 

@@ -1,7 +1,7 @@
 -- What was written so far.
 use Rattle.std.proofs.Common.{◌++◌, take}
 use Rattle.std.specs.Io.KnownBytes.{Appends}
-use Rattle.ob_journal.specs.Lines.{entry_lines, header_line}
+use Rattle.ob_entries.specs.Lines.{entry_lines, header_line}
 use Rattle.ob_standard.specs.Standard.{standard}
 use Rattle.ob_threads.proofs.journal.write_segment.Given as goal
 

@@ -3,7 +3,7 @@ use Rattle.std.proofs.Common.{◌≡◌, ◌∙◌, ◌↔◌, IsTrue, ◌++◌,
 use Rattle.std.proofs.lemmas.List.{length-map, take_all}
 use Rattle.std.specs.Arc.{arc_value}
 use Rattle.ob_standard.specs.Standard.{StandardKind}
-use Rattle.ob_journal.specs.Segments.{Segment, joined}
+use Rattle.ob_entries.specs.Segments.{Segment, joined}
 use Rattle.ob_threads.specs.Order.{followed, is_whole}
 use Rattle.ob_threads.specs.Played.{IsInOrder}
 use Rattle.ob_threads.specs.declared.order.Order.TheVariants.{Begun}

@@ -1,7 +1,7 @@
 -- How far the segments so far came in order.
 use Rattle.std.proofs.Common.{◌≡◌, map, take}
 use Rattle.std.specs.Arc.{arc_value}
-use Rattle.ob_journal.specs.Segments.{joined}
+use Rattle.ob_entries.specs.Segments.{joined}
 use Rattle.ob_threads.specs.Order.{followed}
 use Rattle.ob_threads.specs.declared.order.Order.TheVariants.{Begun}
 use Rattle.ob_threads.proofs.order.is_in_order.Given as goal

@@ -4,7 +4,7 @@ use Rattle.std.proofs.lemmas.List.{length-map}
 use Rattle.std.proofs.lemmas.List.FromFn.{length-map-range_with_len}
 use Rattle.std.specs.List.{range_with_len, slice_index_or, remove}
 use Rattle.std.specs.Arc.{arc_value}
-use Rattle.ob_journal.specs.Segments.{joined}
+use Rattle.ob_entries.specs.Segments.{joined}
 use Rattle.ob_locked.specs.Opened.{fresh_pass, fresh_passes}
 use Rattle.ob_locked.specs.Passed.{Passed}
 use Rattle.ob_worker_lines.specs.Parts.{lines_in}

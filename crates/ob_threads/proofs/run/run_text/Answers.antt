@@ -2,7 +2,7 @@
 use Rattle.std.proofs.Common.{◌∷◌, ◌++◌, [], inr, map, sym, subst}
 use Rattle.std.specs.Arc.{arc_value}
 use Rattle.std.specs.Io.KnownBytes.{Appends}
-use Rattle.ob_journal.specs.Lines.{journal_lines}
+use Rattle.ob_entries.specs.Lines.{journal_lines}
 use Rattle.ob_standard.specs.Standard.{standard}
 use Rattle.ob_threads.specs.Ended.{ending_of}
 use Rattle.ob_threads.specs.Written.{IsCutOff, IsOutput}

@@ -1,7 +1,7 @@
 -- The worker has run its part, to the end or to where it stopped.
 use Rattle.std.proofs.Common.{◌≡◌, ◌++◌, subst}
-use Rattle.ob_requests.specs.Tables.{words_in}
-use Rattle.ob_requests.specs.Words.{Words}
+use Rattle.ob_requests.specs.Tables.{variables_in}
+use Rattle.ob_requests.specs.Variables.{Variables}
 use Rattle.ob_seats.specs.Received.{Entries}
 use Rattle.ob_threads.specs.Run.{IsGiven}
 use Rattle.ob_threads.specs.Worked.{IsSeatRun}
@@ -15,6 +15,6 @@ returns g c =
     let after = g.C.Callers.receipts c.run_seat-pass.result.0 in
     let ended = c.run_seat-pass.result.1 in (
       c.run_seat-pass.ensures.seat,
-      subst (λ (words : Words). (entries : Entries) × (after ≡ before ++ entries) × IsSeatRun known c.args.job.part words entries ended) c.with_words.ensures.words
-          (seat_runs known c.args.job.part (words_in c.with_words.result.words) before after ended c.run_seat-pass.ensures.played c.run_seat-pass.ensures.stopped),
+      subst (λ (variables : Variables). (entries : Entries) × (after ≡ before ++ entries) × IsSeatRun known c.args.job.part variables entries ended) c.with_variables.ensures.variables
+          (seat_runs known c.args.job.part (variables_in c.with_variables.result.variables) before after ended c.run_seat-pass.ensures.played c.run_seat-pass.ensures.stopped),
     )

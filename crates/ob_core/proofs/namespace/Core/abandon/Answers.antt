@@ -6,7 +6,7 @@ use Rattle.ob_model.specs.Refusals.{answers}
 use Rattle.ob_model.specs.Settle.{IsSettled}
 use Rattle.ob_model.proofs.Steps.{step_sound}
 use Rattle.ob_model.proofs.Staying.{step_settled}
-use Rattle.ob_types.specs.Brought.{run_of, brought as end_of}
+use Rattle.ob_types.specs.Pending.{run_of, brought as end_of}
 use Rattle.ob_space.proofs.Looked.{same_sound}
 use Rattle.ob_opens.proofs.Abandoned.{either_way}
 use Rattle.ob_core.specs.Reached.{IsReached}

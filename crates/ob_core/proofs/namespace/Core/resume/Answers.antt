@@ -1,6 +1,6 @@
 -- A step leaves a sound and settled state, and so does none.
 use Rattle.ob_model.specs.declared.reply.Event.TheVariants.{Resume}
-use Rattle.ob_types.specs.Brought.{run_of_end}
+use Rattle.ob_types.specs.Pending.{run_of_end}
 use Rattle.ob_opens.specs.Waiting.{answer_of}
 use Rattle.ob_core.proofs.Reached.{reached_stepped}
 use Rattle.ob_core.proofs.Stepped.{stepped}

@@ -4,7 +4,7 @@ use Rattle.ob_model.specs.declared.state.Held.{Held}
 use Rattle.ob_model.specs.declared.state.Process.{Process}
 use Rattle.ob_model.specs.Closing.{is_handle}
 use Rattle.ob_model.specs.Grants.{IsFreeValue}
-use Rattle.ob_choices.specs.Choice.{revalued}
+use Rattle.ob_model.specs.Choice.{revalued}
 use Rattle.ob_space.specs.Namespace.{parts, state_of}
 use Rattle.ob_space.specs.Orderly.{IsBetweenSteps}
 use Rattle.ob_core.specs.Reached.{IsJustGiven, IsReached}

@@ -3,7 +3,7 @@ use Rattle.std.proofs.Common.{◌∙◌, ◌-◌, ℕ, refl, ap, arith}
 use Rattle.ob_base.specs.declared.status.Status.TheVariants.{Success}
 use Rattle.ob_model.specs.declared.reply.Event.TheVariants.{Abandon}
 use Rattle.ob_model.specs.Refusals.{answers}
-use Rattle.ob_types.specs.Brought.{brought, run_of}
+use Rattle.ob_types.specs.Pending.{brought, run_of}
 use Rattle.ob_segments.specs.Journal.{whole, with_entry}
 use Rattle.ob_locked.specs.Places.{places_of}
 use Rattle.ob_locked.proofs.Placed.{found_places}

@@ -1,4 +1,4 @@
--- The open segment comes behind the sealed ones.
+-- The open segment comes after the sealed ones.
 use Rattle.std.proofs.Common.{◌≡◌, ◌∙◌, ◌+◌, ◌++◌, length, map, ap, sym, arith}
 use Rattle.std.proofs.lemmas.List.{length-map}
 use Rattle.std.specs.Arc.{arc_value}

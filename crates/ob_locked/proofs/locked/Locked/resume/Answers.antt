@@ -2,7 +2,7 @@
 use Rattle.std.proofs.Common.{◌∙◌, ◌+◌, ◌-◌, ℕ, refl, ap, sym, subst, arith}
 use Rattle.ob_model.specs.declared.reply.Answer.TheVariants.{Done, Ticket}
 use Rattle.ob_model.specs.declared.reply.Event.TheVariants.{Resume}
-use Rattle.ob_types.specs.Brought.{run_of_end}
+use Rattle.ob_types.specs.Pending.{run_of_end}
 use Rattle.ob_types.specs.Parse.{asked_of}
 use Rattle.ob_opens.specs.Waiting.{answer_of, IfParsing, IsAwaited, IsParseOf}
 use Rattle.ob_locked.specs.Locked.{IsKept}

@@ -1,5 +1,5 @@
 use Rattle.std.proofs.Common.{◌≡◌, ◌∙◌, length, sym}
-use Rattle.ob_lookup.specs.Cache.{ArePaths}
+use Rattle.ob_lookup.specs.Prefixes.{ArePaths}
 use Rattle.ob_objects.specs.Store.{rows_of}
 use Rattle.ob_objects.proofs.RowCounts.{count_with_entry}
 use Rattle.ob_objects.specs.Changes.{with_entry}

@@ -1,4 +1,4 @@
--- What is asked for in the end is a copy of the rule, of all that is recorded.
+-- After all steps that are asked for, the copy keeps the rule and has all publications that are recorded.
 use Rattle.std.proofs.Common.{◌∙◌, drop}
 use Rattle.ob_published.specs.Ahead.{asked}
 use Rattle.ob_published.specs.Shown.{after_steps}

@@ -1,6 +1,6 @@
 -- One open more was given up.
 use Rattle.std.proofs.Common.{◌∙◌, refl}
-use Rattle.ob_requests.specs.Tables.{words_in}
+use Rattle.ob_requests.specs.Tables.{variables_in}
 use Rattle.ob_seats.proofs.Playing.{all_gone, all_let_go, leaves, none_gone, none_left, one_gone}
 use Rattle.ob_seats.proofs.seat.Seat.end.Goals as goal
 
@@ -28,9 +28,9 @@ loop-parsing-preserved g c = (
 
 pub returns-clause-given_up : goal.returns-clause-given_up
 returns-clause-given_up g c = λ whole.
-    all_gone (words_in c.args.self.words) c.args.self.waits c.loop-parsing.waits (g.C.Callers.receipts c.args.pass) (g.C.Callers.receipts c.loop-parsing.pass) c.in_default.ensures.none c.requires.held.listed
+    all_gone (variables_in c.args.self.variables) c.args.self.waits c.loop-parsing.waits (g.C.Callers.receipts c.args.pass) (g.C.Callers.receipts c.loop-parsing.pass) c.in_default.ensures.none c.requires.held.listed
     (c.loop-parsing.invariant.0 whole)
 
 pub returns-clause-let_go : goal.returns-clause-let_go
 returns-clause-let_go g c =
-    all_let_go (words_in c.args.self.words) c.args.self.waits c.loop-parsing.waits (g.C.Callers.receipts c.args.pass) (g.C.Callers.receipts c.loop-parsing.pass) c.in_default.ensures.none c.requires.held.listed c.loop-parsing.invariant.1
+    all_let_go (variables_in c.args.self.variables) c.args.self.waits c.loop-parsing.waits (g.C.Callers.receipts c.args.pass) (g.C.Callers.receipts c.loop-parsing.pass) c.in_default.ensures.none c.requires.held.listed c.loop-parsing.invariant.1

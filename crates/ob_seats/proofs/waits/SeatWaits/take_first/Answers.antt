@@ -1,4 +1,4 @@
--- The parse of the least ticket stands first in the map.
+-- The parse of the least ticket comes first in the map.
 use Rattle.std.proofs.Common.{◌∙◌, sym}
 use Rattle.ob_seats.proofs.Keys.{rest_kept, first_own}
 use Rattle.ob_seats.proofs.waits.SeatWaits.take_first.Goals as goal

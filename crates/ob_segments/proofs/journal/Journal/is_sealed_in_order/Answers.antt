@@ -1,5 +1,5 @@
 use Rattle.std.proofs.Common.{subst}
-use Rattle.ob_journal.specs.Segments.{AreSealed}
+use Rattle.ob_entries.specs.Segments.{AreSealed}
 use Rattle.ob_segments.proofs.Lists.{AreSealed-take}
 use Rattle.ob_segments.proofs.journal.Journal.is_sealed_in_order.Goals as goal
 

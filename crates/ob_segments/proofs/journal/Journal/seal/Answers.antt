@@ -1,7 +1,7 @@
 use Rattle.std.proofs.Common.{◌≡◌, ◌≤◌, ◌<◌, ◌+◌, [], length, map, ap, ◌∙◌, arith, vec_capacity}
 use Rattle.std.specs.Arc.{arc_value}
 use Rattle.std.proofs.lemmas.List.{length-map}
-use Rattle.ob_journal.specs.Segments.{most_entries}
+use Rattle.ob_entries.specs.Segments.{most_entries}
 use Rattle.ob_segments.proofs.Lists.{length-joined, length-unsealed, map-pushed, sealed_one, kept-sealed, kept-apart}
 use Rattle.ob_segments.proofs.journal.Journal.seal.Goals as goal
 

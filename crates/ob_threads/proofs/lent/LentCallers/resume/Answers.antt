@@ -2,7 +2,7 @@
 use Rattle.std.proofs.Common.{IfOk, IfErr, inr, ap, subst}
 use Rattle.ob_model.specs.declared.reply.Answer.TheVariants.{Done, Ticket}
 use Rattle.ob_model.specs.declared.reply.Event.TheVariants.{Resume}
-use Rattle.ob_types.specs.Brought.{run_of_end}
+use Rattle.ob_types.specs.Pending.{run_of_end}
 use Rattle.ob_standard.specs.Standard.{standard}
 use Rattle.ob_locked.specs.Answers.{answer_in}
 use Rattle.ob_locked.specs.declared.started.Pending.TheVariants as pending

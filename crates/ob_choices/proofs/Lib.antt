@@ -1,6 +1,0 @@
-pub mod Revalued
-pub mod Chosen
-pub mod ChosenSteps
-pub mod OneAnswer
-pub mod Answered
-pub mod Waits

@@ -1,6 +1,0 @@
--- The answers are alike, and a new process is told of in one way.
-use Rattle.ob_choices.proofs.OneAnswer.{step_has_one_answer}
-use Rattle.ob_choices.proofs.nothing_else_is_chosen.Goals as goal
-
-pub returns : goal.returns
-returns g c = step_has_one_answer

@@ -1,6 +1,0 @@
--- What a step reads of the set's value are its procedures.
-use Rattle.ob_drains.proofs.Runs.{steps_stay}
-use Rattle.ob_drains.proofs.unnoticed_changes_leave_steps.Goals as goal
-
-pub returns : goal.returns
-returns g c = steps_stay

@@ -1,0 +1,3 @@
+pub mod Segments
+pub mod Lines
+pub mod Words

@@ -1,7 +1,0 @@
-use Rattle.std.proofs.Common.{◌≡◌, map, take}
-use Rattle.serde_json.specs.View.{view}
-use Rattle.ob_journal.specs.Lines.{number_value}
-use Rattle.ob_journal.proofs.replies.make_handles.Given as goal
-
-abbrev pub invariant-loop-handle : goal.invariant-loop-handle
-invariant-loop-handle l = map view l.list.items ≡ map number_value (take l.handle-index l.handles)

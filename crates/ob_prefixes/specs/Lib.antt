@@ -1,0 +1,4 @@
+pub mod Prefix
+pub mod PrefixLaws
+pub mod PrefixHash
+pub mod Cache

@@ -1,5 +1,0 @@
-pub mod Runs
-pub mod SoFar
-pub mod Choosing
-pub mod Turns
-pub mod Cut

@@ -1,6 +1,0 @@
--- Each header closes the segment before.
-use Rattle.ob_replay.proofs.Cut.{told_in_segments}
-use Rattle.ob_replay.proofs.laws.what_is_told_is_in_segments.Goals as goal
-
-pub returns : goal.returns
-returns c = told_in_segments

@@ -1,8 +1,0 @@
--- No open waits under the word; all others stay.
-use Rattle.ob_requests.specs.Tables.{number_in, rows_in}
-use Rattle.ob_requests.proofs.Written.{ticket_set}
-use Rattle.ob_requests.proofs.words.Words.clear_ticket.Goals as goal
-
-pub returns : goal.returns
-returns c =
-    ticket_set (number_in c.args.self.now.processes) (rows_in c.args.self.now.handles) _ c.process.inside.0 c.args.process c.process.view_is c.args.word.now 0 c.write.ensures

@@ -1,0 +1,4 @@
+pub mod Shown
+pub mod Running
+pub mod Offsets
+pub mod Alike

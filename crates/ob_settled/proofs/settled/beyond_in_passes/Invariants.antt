@@ -1,7 +1,0 @@
--- The least seat so far is that of the passes so far.
-use Rattle.std.proofs.Common.{◌≡◌, [], take}
-use Rattle.ob_settled.specs.Settled.{passes_of, IsLeastWithout}
-use Rattle.ob_settled.proofs.settled.beyond_in_passes.Given as goal
-
-abbrev pub invariant-loop-pass : goal.invariant-loop-pass
-invariant-loop-pass g l = IsLeastWithout (λ seat. passes_of seat (take l.pass-index l.passes) ≡ []) l.seats l.least

@@ -1,0 +1,366 @@
+-- Which words are no fault of the program's, and which task they name.
+use Rattle.std.proofs.Common.{◌≡◌, ◌⊎◌, ◌∙◌, ◌||◌, Bool, true, false, if◌then◌else◌, List, [], ◌∷◌, Option, Some, None, refl, sym, ap, subst, bytes_eq, codes, inl, inr, option_map}
+use Rattle.std.proofs.lemmas.Slice.Eq.{bytes_eq-Decides}
+use Rattle.clap.specs.Walk.{Held, Names, Step, Walk, after_step, arg_by_index, finished, has_long, has_short, idle, long_or_other, nothing_held, rows_after, stop_after, subcommand_or_other, to_positional, trailing, value, walk_from, walked}
+use Rattle.clap.specs.Faults.{entered_fault, flag_word_fault, level_fault, other_fault, step_fault, turn_fault, walk_fault}
+use Rattle.clap.specs.Kinds.{Kinds, or_else}
+use Rattle.clap.specs.Lexer.{long_of}
+use Rattle.clap.specs.Simple.{Shape, built_leaf, entered, inherited, marked_built, names_of, with_leaf_noted}
+use Rattle.clap.specs.declared.error.Error.{Error}
+use Rattle.clap.specs.Words.{App, HasKind, Row, Text, built, fault_of, first_of, is_simple, is_simple_and_free, new_app, subcommand_of, with_rule}
+use Rattle.clap.proofs.OnLiterals.{clap_on_literals}
+use Rattle.clap.proofs.WalkLemmas.{walk_stopped}
+use Rattle.ob_shell.specs.Plan.{IsFileIn, IsNothingMore, Named, Spells, check, file_rule, ntns, replay, run, script, session, task_of, threads}
+use Rattle.ob_shell.proofs.Flags.{HasOnlyRequests, dashes, dashes_alone, help, long_is_plain, or_else_next, or_else_none, version}
+
+-- the program, as the parser builds it
+abbrev top : Shape
+top = (built ntns).top
+
+abbrev names : Names
+names = names_of (built ntns)
+
+abbrev run_word : Text
+run_word = codes "run"
+
+abbrev threads_word : Text
+threads_word = codes "threads"
+
+abbrev replay_word : Text
+replay_word = codes "replay"
+
+abbrev check_word : Text
+check_word = codes "check"
+
+abbrev session_word : Text
+session_word = codes "session"
+
+abbrev help_word : Text
+help_word = codes "help"
+
+top_has_only_requests : HasOnlyRequests top.rules
+top_has_only_requests = record {
+  by_long = λ name. (has_long help name, (has_long version name, refl));
+  by_short = λ letter. (has_short help letter, (has_short version letter, refl));
+}
+
+-- the names of the subcommands, which have no others
+abbrev run_name : Text × List Text
+run_name = (run_word, [])
+
+abbrev threads_name : Text × List Text
+threads_name = (threads_word, [])
+
+abbrev replay_name : Text × List Text
+replay_name = (replay_word, [])
+
+abbrev check_name : Text × List Text
+check_name = (check_word, [])
+
+abbrev session_name : Text × List Text
+session_name = (session_word, [])
+
+abbrev help_name : Text × List Text
+help_name = (help_word, [])
+
+-- the subcommand that a word names, by the names
+abbrev met_by : Bool → Bool → Bool → Bool → Bool → Bool → Option Text
+met_by is_run is_threads is_replay is_check is_session is_help = option_map (λ s. s.0)
+    (if is_run || false then Some run_name else (if is_threads || false then Some threads_name
+    else (if is_replay || false then Some replay_name else (if is_check || false then Some check_name
+    else (if is_session || false then Some session_name else (if is_help || false then Some help_name else None))))))
+
+-- a first word is `run`, `threads`, `replay`, `check`, `session` or `--`
+abbrev IsFirst : Bool → Bool → Bool → Bool → Bool → Text → Type 0
+IsFirst is_run is_threads is_replay is_check is_session word =
+    (is_run ≡ true) ⊎ ((is_threads ≡ true) ⊎ ((is_replay ≡ true) ⊎ ((is_check ≡ true) ⊎ ((is_session ≡ true) ⊎ (word ≡ dashes)))))
+
+first_turn : (is_run is_threads is_replay is_check is_session is_help : Bool) (word : Text)
+    → or_else (other_fault top (met_by is_run is_threads is_replay is_check is_session is_help) word nothing_held)
+    (step_fault top 1
+    (subcommand_or_other top.rules (met_by is_run is_threads is_replay is_check is_session is_help) idle 1 word nothing_held).0
+    (subcommand_or_other top.rules (met_by is_run is_threads is_replay is_check is_session is_help) idle 1 word nothing_held).1) ≡ []
+    → IsFirst is_run is_threads is_replay is_check is_session word
+first_turn true is_threads is_replay is_check is_session is_help word none = inl refl
+first_turn false true is_replay is_check is_session is_help word none = inr (inl refl)
+first_turn false false true is_check is_session is_help word none = inr (inr (inl refl))
+first_turn false false false true is_session is_help word none = inr (inr (inr (inl refl)))
+first_turn false false false false true is_help word none = inr (inr (inr (inr (inl refl))))
+first_turn false false false false false true word none = cc
+first_turn false false false false false false word none =
+    inr (inr (inr (inr (inr (dashes_alone top top_has_only_requests 1 refl None word none)))))
+
+-- what a first word without a fault is
+abbrev IsFirstWord : Text → Type 0
+IsFirstWord word =
+    (word ≡ run_word) ⊎ ((word ≡ threads_word) ⊎ ((word ≡ replay_word) ⊎ ((word ≡ check_word) ⊎ ((word ≡ session_word) ⊎ (word ≡ dashes)))))
+
+first_word : (word : Text) → turn_fault top names (walk_from nothing_held) word ≡ [] → IsFirstWord word
+first_word word none =
+    elim (first_turn (bytes_eq run_word word) (bytes_eq threads_word word) (bytes_eq replay_word word) (bytes_eq check_word word) (bytes_eq session_word word) (bytes_eq help_word word) word none) [
+      | inl is_run ↦ inl (sym ((bytes_eq-Decides run_word word).0 is_run))
+      | inr (inl is_threads) ↦ inr (inl (sym ((bytes_eq-Decides threads_word word).0 is_threads)))
+      | inr (inr (inl is_replay)) ↦ inr (inr (inl (sym ((bytes_eq-Decides replay_word word).0 is_replay))))
+      | inr (inr (inr (inl is_check))) ↦ inr (inr (inr (inl (sym ((bytes_eq-Decides check_word word).0 is_check)))))
+      | inr (inr (inr (inr (inl is_session)))) ↦ inr (inr (inr (inr (inl (sym ((bytes_eq-Decides session_word word).0 is_session))))))
+      | inr (inr (inr (inr (inr is_dashes)))) ↦ inr (inr (inr (inr (inr is_dashes))))
+    ]
+
+-- ---- the words behind a subcommand
+
+module _ (command : Text) where
+  -- the subcommand, as the parser builds it
+  abbrev inner : Shape
+  inner = built_leaf (inherited (with_leaf_noted (marked_built ntns.top)) (with_rule (new_app command) file_rule).top)
+
+  inner_has_only_requests : HasOnlyRequests inner.rules
+  inner_has_only_requests = record {
+    by_long = λ name. (has_long help name, (false, refl));
+    by_short = λ letter. (has_short help letter, (false, refl));
+  }
+
+  -- where the walk over them stands after a word that is the path
+  abbrev after_file : Text → Walk
+  after_file file = to_positional inner.rules (arg_by_index inner.rules 1) file (walk_from nothing_held) nothing_held
+
+  dashes_or_plain : (is_dashes : Bool) (word : Text) (more : Kinds)
+      → or_else (if is_dashes then [] else flag_word_fault inner.rules false (long_of word) word nothing_held) more ≡ []
+      → (is_dashes ≡ true) ⊎ ((if is_dashes then (nothing_held, trailing 1) else long_or_other inner.rules idle word (long_of word) nothing_held) ≡ (nothing_held, value))
+  dashes_or_plain true word more none = inl refl
+  dashes_or_plain false word more none = inr (long_is_plain inner.rules inner_has_only_requests None word (long_of word) (or_else_none _ _ none))
+
+  -- the first of them is `--` or the path
+  inner_word : (word : Text) → turn_fault inner [] (walk_from nothing_held) word ≡ []
+      → (word ≡ dashes) ⊎ (walked inner.rules [] (walk_from nothing_held) word ≡ after_file word)
+  unfolding walked
+  inner_word word none = elim (dashes_or_plain (bytes_eq word dashes) word _ none) [
+    | inl is_dashes ↦ inl ((bytes_eq-Decides word dashes).0 is_dashes)
+    | inr same ↦ inr (ap (λ (met : Held × Step). after_step inner.rules word (walk_from nothing_held) met.0 met.1) same)
+  ]
+
+  -- a word behind the path is `--`
+  next_word : (file word : Text) → turn_fault inner [] (after_file file) word ≡ [] → word ≡ dashes
+  next_word file word none = dashes_alone inner inner_has_only_requests 2 refl (Some (codes "FILE", file ∷ [])) word none
+
+  -- and a word behind that is a fault
+  last_is_fault : (file last : Text) (rest : List Text) → walk_fault inner [] (walked inner.rules [] (after_file file) dashes) (last ∷ rest) ≡ [] → ⊥
+  unfolding walk_fault walked
+  last_is_fault file last rest none = cc
+
+  behind_file : (file : Text) (rest : List Text) → walk_fault inner [] (after_file file) rest ≡ [] → (rest ≡ []) ⊎ (rest ≡ dashes ∷ [])
+  unfolding walk_fault
+  behind_file file [] none = inl refl
+  behind_file file (word ∷ []) none = inr (ap (λ (w : Text). w ∷ []) (next_word file word (or_else_none _ _ none)))
+  behind_file file (word ∷ last ∷ rest) none =
+      let same : word ≡ dashes = next_word file word (or_else_none _ _ none) in
+      let later : walk_fault inner [] (walked inner.rules [] (after_file file) word) (last ∷ rest) ≡ [] = or_else_next _ _ none in
+      absurd (last_is_fault file last rest (subst (λ w. walk_fault inner [] (walked inner.rules [] (after_file file) w) (last ∷ rest) ≡ []) same later))
+
+  abbrev rows_after_walk : Walk → List Row
+  rows_after_walk w = finished inner.rules w.held
+
+  -- the words name a file, which the rows hold
+  abbrev NamesFile : List Text → Type 0
+  NamesFile words = (file : Text) × ((first_of (codes "FILE") (rows_after inner.rules [] words) ≡ Some file) × IsFileIn file words)
+
+  abbrev no_fault : List Text → Type 0
+  no_fault words = level_fault inner [] nothing_held words false [] ≡ []
+
+  none_is_fault : no_fault [] → ⊥
+  unfolding clap_on_literals
+  none_is_fault none = cc
+
+  behind_dashes : (rest : List Text) → no_fault (dashes ∷ rest) → NamesFile (dashes ∷ rest)
+  unfolding clap_on_literals
+  behind_dashes [] none = cc
+  behind_dashes (file ∷ []) none = (file, (refl, inl (refl, refl)))
+  behind_dashes (file ∷ word ∷ rest) none = cc
+
+  rows_before_dashes : (file : Text) → first_of (codes "FILE") (rows_after_walk (walked inner.rules [] (after_file file) dashes)) ≡ Some file
+  unfolding walked
+  rows_before_dashes file = refl
+
+  names_plain : (file : Text) (rest : List Text) → walked inner.rules [] (walk_from nothing_held) file ≡ after_file file
+      → (rest ≡ []) ⊎ (rest ≡ dashes ∷ []) → NamesFile (file ∷ rest)
+  names_plain file rest same (inl end) = subst (λ words. NamesFile (file ∷ words)) (sym end)
+      (file, (ap (λ (w : Walk). first_of (codes "FILE") (rows_after_walk w)) same, refl))
+  names_plain file rest same (inr end) = subst (λ words. NamesFile (file ∷ words)) (sym end)
+      (file, (ap (λ (w : Walk). first_of (codes "FILE") (rows_after_walk (walked inner.rules [] w dashes))) same ∙ rows_before_dashes file, inr (refl, refl)))
+
+  turns : (word : Text) (rest : List Text) → no_fault (word ∷ rest)
+      → (turn_fault inner [] (walk_from nothing_held) word ≡ []) × (walk_fault inner [] (walked inner.rules [] (walk_from nothing_held) word) rest ≡ [])
+  unfolding walk_fault
+  turns word rest none = (or_else_none _ _ (or_else_none _ _ none), or_else_next _ _ (or_else_none _ _ none))
+
+  names_by_first : (word : Text) (rest : List Text) → no_fault (word ∷ rest)
+      → (word ≡ dashes) ⊎ (walked inner.rules [] (walk_from nothing_held) word ≡ after_file word) → NamesFile (word ∷ rest)
+  names_by_first word rest none (inl same) =
+      subst (λ w. NamesFile (w ∷ rest)) (sym same) (behind_dashes rest (subst (λ w. no_fault (w ∷ rest)) same none))
+  names_by_first word rest none (inr same) =
+      names_plain word rest same (behind_file word rest (subst (λ w. walk_fault inner [] w rest ≡ []) same (turns word rest none).1))
+
+  names_file : (words : List Text) → no_fault words → NamesFile words
+  names_file [] none = absurd (none_is_fault none)
+  names_file (word ∷ rest) none = names_by_first word rest none (inner_word word (turns word rest none).0)
+
+-- ---- the words behind the program's name
+
+-- what follows a subcommand is left to it
+left_to_run : (rest : List Text) → stop_after top.rules names (run_word ∷ rest) ≡ Some (run_word, rest)
+unfolding walked
+left_to_run rest = sym (ap (λ (w : Walk). w.stopped) (walk_stopped top.rules names (walk_from nothing_held) run_word [] rest))
+
+left_to_threads : (rest : List Text) → stop_after top.rules names (threads_word ∷ rest) ≡ Some (threads_word, rest)
+unfolding walked
+left_to_threads rest = sym (ap (λ (w : Walk). w.stopped) (walk_stopped top.rules names (walk_from nothing_held) threads_word [] rest))
+
+left_to_replay : (rest : List Text) → stop_after top.rules names (replay_word ∷ rest) ≡ Some (replay_word, rest)
+unfolding walked
+left_to_replay rest = sym (ap (λ (w : Walk). w.stopped) (walk_stopped top.rules names (walk_from nothing_held) replay_word [] rest))
+
+left_to_check : (rest : List Text) → stop_after top.rules names (check_word ∷ rest) ≡ Some (check_word, rest)
+unfolding walked
+left_to_check rest = sym (ap (λ (w : Walk). w.stopped) (walk_stopped top.rules names (walk_from nothing_held) check_word [] rest))
+
+left_to_session : (rest : List Text) → stop_after top.rules names (session_word ∷ rest) ≡ Some (session_word, rest)
+unfolding walked
+left_to_session rest = sym (ap (λ (w : Walk). w.stopped) (walk_stopped top.rules names (walk_from nothing_held) session_word [] rest))
+
+no_fault_below : (name : Text) (words : List Text) → fault_of ntns (name ∷ words) ≡ [] → entered_fault (built ntns) (stop_after top.rules names words) ≡ []
+no_fault_below name words none = or_else_none _ _ (or_else_next _ _ none)
+
+-- the words name a task
+abbrev NamesTask : List Text → Type 0
+NamesTask words = (task : Named) × ((task_of (subcommand_of ntns words) ≡ Some task) × Spells words task)
+
+names_run : (name : Text) (rest : List Text) → fault_of ntns (name ∷ run_word ∷ rest) ≡ [] → NamesTask (name ∷ run_word ∷ rest)
+names_run name rest none =
+    let below : no_fault run_word rest = subst (λ stop. entered_fault (built ntns) stop ≡ []) (left_to_run rest) (no_fault_below name (run_word ∷ rest) none) in
+    let found : NamesFile run_word rest = names_file run_word rest below in
+    let rows : subcommand_of ntns (name ∷ run_word ∷ rest) ≡ Some (run_word, rows_after (inner run_word).rules [] rest) = ap (entered (built ntns)) (left_to_run rest) in
+    (run found.0, (ap task_of rows ∙ ap (option_map run) found.1.0, (refl, found.1.1)))
+
+names_threads : (name : Text) (rest : List Text) → fault_of ntns (name ∷ threads_word ∷ rest) ≡ [] → NamesTask (name ∷ threads_word ∷ rest)
+names_threads name rest none =
+    let below : no_fault threads_word rest = subst (λ stop. entered_fault (built ntns) stop ≡ []) (left_to_threads rest) (no_fault_below name (threads_word ∷ rest) none) in
+    let found : NamesFile threads_word rest = names_file threads_word rest below in
+    let rows : subcommand_of ntns (name ∷ threads_word ∷ rest) ≡ Some (threads_word, rows_after (inner threads_word).rules [] rest) = ap (entered (built ntns)) (left_to_threads rest) in
+    (threads found.0, (ap task_of rows ∙ ap (option_map threads) found.1.0, (refl, found.1.1)))
+
+names_replay : (name : Text) (rest : List Text) → fault_of ntns (name ∷ replay_word ∷ rest) ≡ [] → NamesTask (name ∷ replay_word ∷ rest)
+names_replay name rest none =
+    let below : no_fault replay_word rest = subst (λ stop. entered_fault (built ntns) stop ≡ []) (left_to_replay rest) (no_fault_below name (replay_word ∷ rest) none) in
+    let found : NamesFile replay_word rest = names_file replay_word rest below in
+    let rows : subcommand_of ntns (name ∷ replay_word ∷ rest) ≡ Some (replay_word, rows_after (inner replay_word).rules [] rest) = ap (entered (built ntns)) (left_to_replay rest) in
+    (replay found.0, (ap task_of rows ∙ ap (option_map replay) found.1.0, (refl, found.1.1)))
+
+names_check : (name : Text) (rest : List Text) → fault_of ntns (name ∷ check_word ∷ rest) ≡ [] → NamesTask (name ∷ check_word ∷ rest)
+names_check name rest none =
+    let below : no_fault check_word rest = subst (λ stop. entered_fault (built ntns) stop ≡ []) (left_to_check rest) (no_fault_below name (check_word ∷ rest) none) in
+    let found : NamesFile check_word rest = names_file check_word rest below in
+    let rows : subcommand_of ntns (name ∷ check_word ∷ rest) ≡ Some (check_word, rows_after (inner check_word).rules [] rest) = ap (entered (built ntns)) (left_to_check rest) in
+    (check found.0, (ap task_of rows ∙ ap (option_map check) found.1.0, (refl, found.1.1)))
+
+-- the subcommand `session`, as the parser builds it
+abbrev alone : Shape
+alone = built_leaf (inherited (with_leaf_noted (marked_built ntns.top)) (new_app session_word).top)
+
+alone_has_only_requests : HasOnlyRequests alone.rules
+alone_has_only_requests = record {
+  by_long = λ name. (has_long help name, (false, refl));
+  by_short = λ letter. (has_short help letter, (false, refl));
+}
+
+-- an argument after it is `--`
+word_alone : (word : Text) → turn_fault alone [] (walk_from nothing_held) word ≡ [] → word ≡ dashes
+word_alone word none = dashes_alone alone alone_has_only_requests 1 refl None word none
+
+abbrev no_fault_alone : List Text → Type 0
+no_fault_alone words = level_fault alone [] nothing_held words false [] ≡ []
+
+first_alone : (word : Text) (rest : List Text) → no_fault_alone (word ∷ rest) → turn_fault alone [] (walk_from nothing_held) word ≡ []
+unfolding walk_fault
+first_alone word rest none = or_else_none _ _ (or_else_none _ _ none)
+
+dashes_last : (word : Text) (rest : List Text) → no_fault_alone (dashes ∷ word ∷ rest) → ⊥
+unfolding clap_on_literals
+dashes_last word rest none = cc
+
+is_nothing : (words : List Text) → no_fault_alone words → IsNothingMore words
+is_nothing [] none = tt
+is_nothing (word ∷ []) none = word_alone word (first_alone word [] none)
+is_nothing (word ∷ next ∷ rest) none =
+    let same : word ≡ dashes = word_alone word (first_alone word (next ∷ rest) none) in
+    absurd (dashes_last next rest (subst (λ w. no_fault_alone (w ∷ next ∷ rest)) same none))
+
+names_session : (name : Text) (rest : List Text) → fault_of ntns (name ∷ session_word ∷ rest) ≡ [] → NamesTask (name ∷ session_word ∷ rest)
+names_session name rest none =
+    let below : no_fault_alone rest = subst (λ stop. entered_fault (built ntns) stop ≡ []) (left_to_session rest) (no_fault_below name (session_word ∷ rest) none) in
+    let rows : subcommand_of ntns (name ∷ session_word ∷ rest) ≡ Some (session_word, rows_after alone.rules [] rest) = ap (entered (built ntns)) (left_to_session rest) in
+    (session, (ap task_of rows, (refl, is_nothing rest below)))
+
+names_dashes : (name : Text) (rest : List Text) → fault_of ntns (name ∷ dashes ∷ rest) ≡ [] → NamesTask (name ∷ dashes ∷ rest)
+unfolding clap_on_literals
+names_dashes name [] none = (script, (refl, refl))
+names_dashes name (word ∷ rest) none = cc
+
+names_by : (name word : Text) (rest : List Text) → fault_of ntns (name ∷ word ∷ rest) ≡ [] → IsFirstWord word → NamesTask (name ∷ word ∷ rest)
+names_by name word rest none (inl same) =
+    subst (λ w. NamesTask (name ∷ w ∷ rest)) (sym same) (names_run name rest (subst (λ w. fault_of ntns (name ∷ w ∷ rest) ≡ []) same none))
+names_by name word rest none (inr (inl same)) =
+    subst (λ w. NamesTask (name ∷ w ∷ rest)) (sym same) (names_threads name rest (subst (λ w. fault_of ntns (name ∷ w ∷ rest) ≡ []) same none))
+names_by name word rest none (inr (inr (inl same))) =
+    subst (λ w. NamesTask (name ∷ w ∷ rest)) (sym same) (names_replay name rest (subst (λ w. fault_of ntns (name ∷ w ∷ rest) ≡ []) same none))
+names_by name word rest none (inr (inr (inr (inl same)))) =
+    subst (λ w. NamesTask (name ∷ w ∷ rest)) (sym same) (names_check name rest (subst (λ w. fault_of ntns (name ∷ w ∷ rest) ≡ []) same none))
+names_by name word rest none (inr (inr (inr (inr (inl same))))) =
+    subst (λ w. NamesTask (name ∷ w ∷ rest)) (sym same) (names_session name rest (subst (λ w. fault_of ntns (name ∷ w ∷ rest) ≡ []) same none))
+names_by name word rest none (inr (inr (inr (inr (inr same))))) =
+    subst (λ w. NamesTask (name ∷ w ∷ rest)) (sym same) (names_dashes name rest (subst (λ w. fault_of ntns (name ∷ w ∷ rest) ≡ []) same none))
+
+first_turn_passes : (name word : Text) (rest : List Text) → fault_of ntns (name ∷ word ∷ rest) ≡ [] → turn_fault top names (walk_from nothing_held) word ≡ []
+unfolding walk_fault
+first_turn_passes name word rest none = or_else_none _ _ (or_else_none _ _ none)
+
+-- words without a fault name a task
+pub faultless_names : (words : List Text) → fault_of ntns words ≡ [] → (task : Named) × ((task_of (subcommand_of ntns words) ≡ Some task) × Spells words task)
+faultless_names [] none = (script, (refl, tt))
+faultless_names (name ∷ []) none = (script, (refl, tt))
+faultless_names (name ∷ word ∷ rest) none = names_by name word rest none (first_word word (first_turn_passes name word rest none))
+
+-- ---- what the parser states for an app that is the program, it states for the program
+
+pub faultless_as_stated : (app : App) (words : List Text) → app ≡ ntns → (is_simple_and_free app ≡ true → fault_of app words ≡ []) → fault_of ntns words ≡ []
+faultless_as_stated app words same none =
+    let simple : is_simple_and_free app ≡ true = ap is_simple_and_free same in
+    subst (λ a. fault_of a words ≡ []) same (none simple)
+
+pub kinds_as_stated : (app : App) (words : List Text) (fault : Error) → app ≡ ntns → (is_simple_and_free app ≡ true → HasKind (fault_of app words) fault) → HasKind (fault_of ntns words) fault
+kinds_as_stated app words fault same has =
+    let simple : is_simple_and_free app ≡ true = ap is_simple_and_free same in
+    subst (λ a. HasKind (fault_of a words) fault) same (has simple)
+
+pub used_as_stated : {X : Type 0} (app : App) (words : List Text) (used : Option (Text × List Row)) → app ≡ ntns
+    → (is_simple app ≡ true → X × (used ≡ subcommand_of app words)) → used ≡ subcommand_of ntns words
+used_as_stated app words used same stated =
+    let simple : is_simple app ≡ true = ap is_simple same in
+    subst (λ a. used ≡ subcommand_of a words) same (stated simple).1
+
+none_is_some : (task : Named) → ◌≡◌ {A = Option Named} None (Some task) → ⊥
+none_is_some task same = cc
+
+same_some : (one other : Named) → ◌≡◌ {A = Option Named} (Some one) (Some other) → one ≡ other
+same_some one other same = cc
+
+-- so a task is named,
+pub some_task : (words : List Text) (used : Option (Text × List Row)) → fault_of ntns words ≡ [] → used ≡ subcommand_of ntns words → None ≡ task_of used → ⊥
+some_task words used none same nothing =
+    let found = faultless_names words none in
+    none_is_some found.0 (nothing ∙ ap task_of same ∙ found.1.0)
+
+-- and the words spell it
+pub task_is_spelled : (words : List Text) (used : Option (Text × List Row)) (task : Named) → fault_of ntns words ≡ [] → used ≡ subcommand_of ntns words
+    → Some task ≡ task_of used → Spells words task
+task_is_spelled words used task none same is_task =
+    let found = faultless_names words none in
+    subst (Spells words) (sym (same_some task found.0 (is_task ∙ ap task_of same ∙ found.1.0))) found.1.1

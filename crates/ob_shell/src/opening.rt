@@ -1,0 +1,52 @@
+//! Doing a task over the file that was opened for it.
+
+ghost use Rattle.std.specs.Prelude.{◌≡◌, ◌≢◌};
+ghost use Rattle.std.specs.IoError.{error_kind};
+ghost use Rattle.ob_shell.specs.Opening.{Follows, fault_of_opening, opened_as};
+
+use crate::end::TaskOutcome;
+use crate::performing::{complain, perform};
+use crate::planning::Task;
+use ob_output::{ShellFault, Unread, Unwritten};
+use std::alloc::Global;
+use std::io;
+use std::io::{Error, ErrorKind, Read, Write};
+use std::sync::Wait;
+use std::thread::Threads;
+
+/// Does the task over the file, where it was opened, and tells what [`perform`] tells.
+///
+/// A file that could not be opened is told on `errors`, and nothing is written: as out of memory where
+/// the opening wanted it, and else as an input that cannot be read. (this profile)
+pub fn perform_opened<H: Threads + Wait + Sync, I: Read + Drop, W: Write, E: Write>(
+    rt: &H,
+    alloc: Global,
+    task: Task<'_>,
+    opened: io::Result<I>,
+    writer: &mut W,
+    errors: &mut E,
+) -> (Result<TaskOutcome, ShellFault>, Result<(), Unwritten>)
+    requires { task ≢ Task.Session }
+    ensures { Follows (opened_as I.remaining opened) task.entry (result.0) (result.1)
+        (W.contents writer.old) (W.contents writer.new)
+        (E.contents errors.old) (E.contents errors.new) }
+{
+    match opened {
+        Ok(mut reader) => perform(rt, alloc, task, &mut reader, writer, errors),
+        Err(error) => {
+            let fault = opening_fault(error);
+            let told = complain(errors, &fault);
+            (Err(fault), told)
+        }
+    }
+}
+
+// What a fault of opening a file is to the program.
+fn opening_fault(error: Error) -> ShellFault
+    ensures { result ≡ fault_of_opening (error_kind error) }
+{
+    match error.kind() {
+        ErrorKind::OutOfMemory => ShellFault::Memory,
+        _ => ShellFault::Read(Unread::from(error)),
+    }
+}

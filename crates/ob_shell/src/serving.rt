@@ -1,0 +1,65 @@
+//! From the program's words to its status.
+
+ghost use Rattle.std.specs.Prelude.{map};
+ghost use Rattle.ob_shell.specs.Serve.{AsksFor, Gives, Serves};
+
+use crate::end::ProgramOutcome;
+use crate::opening::perform_opened;
+use crate::performing::{converse, perform};
+use crate::planning::{Task, plan};
+use crate::refusing::refuse;
+use ob_output::Unwritten;
+use std::alloc::Global;
+use std::convert::AsStr;
+use std::io;
+use std::io::{BufRead, Read, Write};
+use std::sync::Wait;
+use std::thread::Threads;
+
+/// Does what the words ask for, and tells how the program ends, and whether what standard error has to say was
+/// written whole. The first word is the program's name.
+///
+/// Where the words name a task and have no fault, it is done: `Script` and `Session` over the reader, and `Run`,
+/// `Threads`, `Replay` and `Check` over the file that `opener` gives for their path. Nothing else is opened: `opener` need only be
+/// callable at the path that the words name, and is called for no script on standard input. A file
+/// that could not be opened is told as `perform_opened` says. A fault of the words is told instead,
+/// and out of memory before there was a task. (this profile)
+pub fn serve<
+    'a,
+    H: Threads + Wait + Sync,
+    S: AsStr,
+    O: FnOnce(&'a str) -> io::Result<I>,
+    I: Read + Drop,
+    R: BufRead,
+    W: Write,
+    E: Write,
+>(
+    rt: &H,
+    alloc: Global,
+    words: &'a [S],
+    opener: O,
+    reader: &mut R,
+    writer: &mut W,
+    errors: &mut E,
+) -> (ProgramOutcome, Result<(), Unwritten>)
+    requires { (path : _) → AsksFor (map S.text words.now) path.now → O.pre opener path }
+    ensures { Serves (Gives O.FnOnce opener I.remaining) (map S.text words.now) (result.0)
+        (result.1) (R.remaining reader.old)
+        (W.contents writer.old) (W.contents writer.new)
+        (E.contents errors.old) (E.contents errors.new) }
+{
+    match plan(alloc, words) {
+        Ok(task) => {
+            let (outcome, told) = match task {
+                Task::Script => perform(rt, alloc, task, reader, writer, errors),
+                Task::Session => converse(alloc, reader, writer, errors),
+                Task::Run(file) | Task::Threads(file) | Task::Replay(file) | Task::Check(file) => {
+                    let opened = opener(file);
+                    perform_opened(rt, alloc, task, opened, writer, errors)
+                }
+            };
+            (ProgramOutcome::Task(outcome), told)
+        }
+        Err(fault) => refuse(alloc, &fault, writer, errors),
+    }
+}

@@ -1,3 +1,0 @@
-pub mod Openings
-pub mod Kept
-pub mod Values

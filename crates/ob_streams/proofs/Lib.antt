@@ -1,2 +1,0 @@
-pub mod Readers
-pub mod Writers

@@ -1,5 +1,0 @@
-pub mod End
-pub mod Opening
-pub mod Perform
-pub mod Refuse
-pub mod Serve

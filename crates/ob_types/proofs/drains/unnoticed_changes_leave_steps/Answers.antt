@@ -1,0 +1,6 @@
+-- What a step reads of the set's value are its procedures.
+use Rattle.ob_types.proofs.UnnoticedRuns.{steps_stay}
+use Rattle.ob_types.proofs.drains.unnoticed_changes_leave_steps.Goals as goal
+
+pub returns : goal.returns
+returns g c = steps_stay

@@ -1,4 +1,0 @@
-pub mod Faults
-pub mod Flags
-pub mod Tasks
-pub mod Words
