@@ -1,0 +1,5 @@
+pub mod Rising
+pub mod Following
+pub mod Leading
+pub mod Lasting
+pub mod Named
