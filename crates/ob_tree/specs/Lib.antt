@@ -1,0 +1,3 @@
+pub mod Surveyed
+pub mod Index
+pub mod Tree
