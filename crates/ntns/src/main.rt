@@ -1,5 +1,5 @@
-//! The program `ntns`: it reads its words for a task, does it over the standard streams or the file
-//! that the words name, and ends with the status of how that ended.
+//! The program `ntns`: it reads its arguments for a task, does it over the standard streams or the file
+//! that the arguments name, and ends with the status of how that ended.
 #![tactic(auto)]
 
 use ob_shell::{refuse, serve, starve, unreadable};
@@ -16,11 +16,11 @@ fn main(rt: HostRuntime) -> ExitCode {
         return ExitCode::from(end.status());
     };
     let (end, _told) = match env::args(&rt) {
-        Ok(words) => match words.collect::<Vec<String>>(alloc) {
-            Ok(words) => serve(
+        Ok(arguments) => match arguments.collect::<Vec<String>>(alloc) {
+            Ok(arguments) => serve(
                 &rt,
                 alloc,
-                words.as_slice(),
+                arguments.as_slice(),
                 |path| fs::open(&rt, path),
                 &mut reader,
                 &mut writer,

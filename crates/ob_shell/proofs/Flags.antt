@@ -73,29 +73,29 @@ pub record HasOnlyRequests (c : List Rule) : Type 0 where
   pub by_long : (name : Text) → (is_help : Bool) × ((is_version : Bool) × (arg_by_long c name ≡ flag_by is_help is_version))
   pub by_short : (letter : ℕ) → (is_help : Bool) × ((is_version : Bool) × (arg_by_short c letter ≡ flag_by is_help is_version))
 
-module _ (c : List Rule) (only : HasOnlyRequests c) (pending : Option (Text × List Text)) (word : Text) where
-  -- a word that is no fault is plain, from the first character behind a hyphen on
+module _ (c : List Rule) (only : HasOnlyRequests c) (pending : Option (Text × List Text)) (argument : Text) where
+  -- a argument that is no fault is plain, from the first character behind a hyphen on
   first_is_plain : (first : Option ℕ) (byte : ℕ) (flags : Text) → bundle_step_fault c false first (byte ∷ flags) 0 (held pending) (flags_fault c false (length flags)) ≡ []
-      → after_flag c idle word (bundle_step c first (byte ∷ flags) 0 plain (held pending) (bundle_met c (length flags))).0 (bundle_step c first (byte ∷ flags) 0 plain (held pending) (bundle_met c (length flags))).1
+      → after_flag c idle argument (bundle_step c first (byte ∷ flags) 0 plain (held pending) (bundle_met c (length flags))).0 (bundle_step c first (byte ∷ flags) 0 plain (held pending) (bundle_met c (length flags))).1
       ≡ (held pending, value)
   first_is_plain None byte flags none = refl
   first_is_plain (Some letter) byte flags none =
       let known = only.by_short letter in
       absurd (short_found_is_fault c (arg_by_short c letter) known.0 known.1.0 known.1.1 _ (held pending) _ none)
 
-  bundle_is_plain : (flags : Text) → bundle_fault c false flags (held pending) ≡ [] → short_word c idle word flags (held pending) ≡ (held pending, value)
+  bundle_is_plain : (flags : Text) → bundle_fault c false flags (held pending) ≡ [] → short_word c idle argument flags (held pending) ≡ (held pending, value)
   unfolding flags_fault bundle_met
   bundle_is_plain [] none = refl
   bundle_is_plain (byte ∷ flags) none = first_is_plain (slice_get (chars (byte ∷ flags)) 0) byte flags none
 
   short_is_plain : (short : Option Text) → option_map_or (λ flags. bundle_fault c false flags (held pending)) short [] ≡ []
-      → short_or_plain c idle word short (held pending) ≡ (held pending, value)
+      → short_or_plain c idle argument short (held pending) ≡ (held pending, value)
   short_is_plain None none = refl
   short_is_plain (Some flags) none = bundle_is_plain flags none
 
-  pub long_is_plain : (long : Option (Text × Option Text)) → flag_word_fault c false long word (held pending) ≡ []
-      → long_or_other c idle word long (held pending) ≡ (held pending, value)
-  long_is_plain None none = short_is_plain (short_of word) none
+  pub long_is_plain : (long : Option (Text × Option Text)) → flag_word_fault c false long argument (held pending) ≡ []
+      → long_or_other c idle argument long (held pending) ≡ (held pending, value)
+  long_is_plain None none = short_is_plain (short_of argument) none
   long_is_plain (Some p) none =
       let known = only.by_long p.0 in
       absurd (long_is_fault c known.0 known.1.0 p.1 (held pending) (subst (λ found. long_fault c false found p.1 (held pending) ≡ []) known.1.1 none))
@@ -113,15 +113,15 @@ module _ (s : Shape) (only : HasOnlyRequests s.rules) (position : ℕ) (untaken 
 
   -- the faults of an argument that names no subcommand, by whether it is `--`
   abbrev faults_by : Bool → Text → Kinds
-  faults_by is_dashes word =
-      let met : Held × Step = if is_dashes then (held pending, trailing position) else long_or_other s.rules idle word (long_of word) (held pending) in
-      or_else (if is_dashes then [] else flag_word_fault s.rules false (long_of word) word (held pending)) (step_fault s position met.0 met.1)
+  faults_by is_dashes argument =
+      let met : Held × Step = if is_dashes then (held pending, trailing position) else long_or_other s.rules idle argument (long_of argument) (held pending) in
+      or_else (if is_dashes then [] else flag_word_fault s.rules false (long_of argument) argument (held pending)) (step_fault s position met.0 met.1)
 
-  faultless_is_dashes : (is_dashes : Bool) (word : Text) → faults_by is_dashes word ≡ [] → is_dashes ≡ true
-  faultless_is_dashes true word none = refl
-  faultless_is_dashes false word none =
-      absurd (plain_is_fault _ (long_is_plain s.rules only pending word (long_of word) (or_else_none _ _ none)) (or_else_next _ _ none))
+  faultless_is_dashes : (is_dashes : Bool) (argument : Text) → faults_by is_dashes argument ≡ [] → is_dashes ≡ true
+  faultless_is_dashes true argument none = refl
+  faultless_is_dashes false argument none =
+      absurd (plain_is_fault _ (long_is_plain s.rules only pending argument (long_of argument) (or_else_none _ _ none)) (or_else_next _ _ none))
 
   -- so where no positional takes it, an argument without a fault is `--`
-  pub dashes_alone : (word : Text) → faults_by (bytes_eq word dashes) word ≡ [] → word ≡ dashes
-  dashes_alone word none = (bytes_eq-Decides word dashes).0 (faultless_is_dashes (bytes_eq word dashes) word none)
+  pub dashes_alone : (argument : Text) → faults_by (bytes_eq argument dashes) argument ≡ [] → argument ≡ dashes
+  dashes_alone argument none = (bytes_eq-Decides argument dashes).0 (faultless_is_dashes (bytes_eq argument dashes) argument none)

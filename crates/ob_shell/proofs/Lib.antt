@@ -2,4 +2,4 @@ pub mod Served
 pub mod Faults
 pub mod Flags
 pub mod Tasks
-pub mod Words
+pub mod Arguments

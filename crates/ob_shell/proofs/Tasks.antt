@@ -27,21 +27,21 @@ run_is_named name rows is_run = rw is_run refl
 threads_is_named : (name : Text) (rows : List Row) → bytes_eq name (codes "threads") ≡ true
     → task_of (Some (name, rows)) ≡ option_map threads (first_of (codes "FILE") rows)
 threads_is_named name rows is_threads =
-    subst (λ word. task_of (Some (word, rows)) ≡ option_map threads (first_of (codes "FILE") rows))
+    subst (λ argument. task_of (Some (argument, rows)) ≡ option_map threads (first_of (codes "FILE") rows))
     (sym ((bytes_eq-Decides name (codes "threads")).0 is_threads)) refl
 
 -- so does the subcommand `replay`
 replay_is_named : (name : Text) (rows : List Row) → bytes_eq name (codes "replay") ≡ true
     → task_of (Some (name, rows)) ≡ option_map replay (first_of (codes "FILE") rows)
 replay_is_named name rows is_replay =
-    subst (λ word. task_of (Some (word, rows)) ≡ option_map replay (first_of (codes "FILE") rows))
+    subst (λ argument. task_of (Some (argument, rows)) ≡ option_map replay (first_of (codes "FILE") rows))
     (sym ((bytes_eq-Decides name (codes "replay")).0 is_replay)) refl
 
 -- and so does the subcommand `check`
 check_is_named : (name : Text) (rows : List Row) → bytes_eq name (codes "check") ≡ true
     → task_of (Some (name, rows)) ≡ option_map check (first_of (codes "FILE") rows)
 check_is_named name rows is_check =
-    subst (λ word. task_of (Some (word, rows)) ≡ option_map check (first_of (codes "FILE") rows))
+    subst (λ argument. task_of (Some (argument, rows)) ≡ option_map check (first_of (codes "FILE") rows))
     (sym ((bytes_eq-Decides name (codes "check")).0 is_check)) refl
 
 -- so matches with a subcommand that names a task name that of the path in its matches

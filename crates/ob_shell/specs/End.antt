@@ -10,7 +10,7 @@ use Rattle.ob_threads.specs.declared.ends.ThreadsEnding.TheVariants as threads
 use Rattle.ob_journal.specs.declared.verdict.Verdict.TheVariants as verdict
 
 -- 0 where the whole script was run, each line of a script that is checked is right, a session came to its end, a journal is accepted, or help or the
--- version was written; 2 for a mistake in the words; 3 where a journal is refused; else 1
+-- version was written; 2 for a mistake in the arguments; 3 where a journal is refused; else 1
 abbrev pub status_of : ProgramOutcome → ℕ
 status_of (Task (Ok (Script ending.Done))) = 0
 status_of (Task (Ok (Script (ending.BadLine line)))) = 1

@@ -1,5 +1,5 @@
--- The program's words: what the parser knows of the program, and the task that words name.
--- Source: this profile. The parser's own words are those of the crate clap.
+-- The program's arguments: what the parser knows of the program, and the task that arguments name.
+-- Source: this profile. The parser's own arguments are those of the crate clap.
 use Rattle.std.specs.Prelude.{◌≡◌, ◌⊎◌, List, [], ◌∷◌, Option, Some, None, codes, if◌then◌else◌, option_map, true}
 use Rattle.std.specs.Borrow.{Bor}
 use Rattle.std.specs.Str.{bytes_eq}
@@ -12,7 +12,7 @@ use Rattle.clap.specs.declared.error.kind.ErrorKind.TheVariants as kind
 use Rattle.ob_shell.specs.declared.planning.Task.{Task}
 use Rattle.ob_shell.specs.declared.planning.Task.TheVariants as task
 
--- the path that a subcommand takes: one word, which must be there
+-- the path that a subcommand takes: one argument, which must be there
 abbrev pub file_rule : Rule
 file_rule = record (new_rule (codes "FILE")) { required = true }
 
@@ -32,7 +32,7 @@ replay_app = with_rule (new_app (codes "replay")) file_rule
 abbrev pub check_app : App
 check_app = with_rule (new_app (codes "check")) file_rule
 
--- the subcommand `session`, which takes no word
+-- the subcommand `session`, which takes no argument
 abbrev pub session_app : App
 session_app = new_app (codes "session")
 
@@ -92,7 +92,7 @@ session_about = codes "Runs each line of standard input as it comes, and prints 
 abbrev pub file_help : Text
 file_help = codes "The path of the file, taken as it is"
 
--- a task by its words
+-- a task by its arguments
 pub data Named : Type 0 where
   script : Named
   run : Text → Named
@@ -118,47 +118,47 @@ task_of (Some used) = if bytes_eq used.0 (codes "run") then option_map run (firs
     else (if bytes_eq used.0 (codes "check") then option_map check (first_of (codes "FILE") used.1)
     else (if bytes_eq used.0 (codes "session") then Some session else None))))
 
--- no word follows the program's name, or `--` alone, which ends the flags
+-- no argument follows the program's name, or `--` alone, which ends the flags
 abbrev pub IsBare : List Text → Type 0
 IsBare [] = Unit {0}
 IsBare (name ∷ []) = Unit {0}
-IsBare (name ∷ word ∷ []) = word ≡ codes "--"
-IsBare (name ∷ word ∷ next ∷ rest) = ⊥
+IsBare (name ∷ argument ∷ []) = argument ≡ codes "--"
+IsBare (name ∷ argument ∷ next ∷ rest) = ⊥
 
--- the words after a subcommand are the file's path, with `--` before or after it or without
+-- the arguments after a subcommand are the file's path, with `--` before or after it or without
 abbrev pub IsFileIn : Text → List Text → Type 0
 IsFileIn file [] = ⊥
-IsFileIn file (word ∷ []) = word ≡ file
-IsFileIn file (word ∷ next ∷ []) = ((word ≡ codes "--") × (next ≡ file)) ⊎ ((word ≡ file) × (next ≡ codes "--"))
-IsFileIn file (word ∷ next ∷ last ∷ rest) = ⊥
+IsFileIn file (argument ∷ []) = argument ≡ file
+IsFileIn file (argument ∷ next ∷ []) = ((argument ≡ codes "--") × (next ≡ file)) ⊎ ((argument ≡ file) × (next ≡ codes "--"))
+IsFileIn file (argument ∷ next ∷ last ∷ rest) = ⊥
 
--- the words are the program's name, the subcommand's, and the file's path
+-- the arguments are the program's name, the subcommand's, and the file's path
 abbrev pub IsOverFile : Text → Text → List Text → Type 0
 IsOverFile command file [] = ⊥
 IsOverFile command file (name ∷ []) = ⊥
-IsOverFile command file (name ∷ word ∷ rest) = (word ≡ command) × IsFileIn file rest
+IsOverFile command file (name ∷ argument ∷ rest) = (argument ≡ command) × IsFileIn file rest
 
--- nothing follows a subcommand that takes no word, or `--` alone
+-- nothing follows a subcommand that takes no argument, or `--` alone
 abbrev pub IsNothingMore : List Text → Type 0
 IsNothingMore [] = Unit {0}
-IsNothingMore (word ∷ []) = word ≡ codes "--"
-IsNothingMore (word ∷ next ∷ rest) = ⊥
+IsNothingMore (argument ∷ []) = argument ≡ codes "--"
+IsNothingMore (argument ∷ next ∷ rest) = ⊥
 
--- the words are the program's name and the subcommand's
+-- the arguments are the program's name and the subcommand's
 abbrev pub IsAlone : Text → List Text → Type 0
 IsAlone command [] = ⊥
 IsAlone command (name ∷ []) = ⊥
-IsAlone command (name ∷ word ∷ rest) = (word ≡ command) × IsNothingMore rest
+IsAlone command (name ∷ argument ∷ rest) = (argument ≡ command) × IsNothingMore rest
 
--- the words that name the task
+-- the arguments that name the task
 abbrev pub Spells : List Text → Named → Type 0
-Spells words script = IsBare words
-Spells words (run file) = IsOverFile (codes "run") file words
-Spells words (threads file) = IsOverFile (codes "threads") file words
-Spells words (replay file) = IsOverFile (codes "replay") file words
-Spells words (check file) = IsOverFile (codes "check") file words
-Spells words session = IsAlone (codes "session") words
+Spells arguments script = IsBare arguments
+Spells arguments (run file) = IsOverFile (codes "run") file arguments
+Spells arguments (threads file) = IsOverFile (codes "threads") file arguments
+Spells arguments (replay file) = IsOverFile (codes "replay") file arguments
+Spells arguments (check file) = IsOverFile (codes "check") file arguments
+Spells arguments session = IsAlone (codes "session") arguments
 
--- a mistake in the words, or a lack of memory
+-- a mistake in the arguments, or a lack of memory
 abbrev pub IsMistakeOrWant : ErrorKind → Type 0
 IsMistakeOrWant k = (k ≡ kind.InvalidValue) ⊎ (k ≡ kind.OutOfMemory)

@@ -1,4 +1,4 @@
--- How the program ends where its words name no task.
+-- How the program ends where its arguments name no task.
 -- Source: this profile.
 use Rattle.std.specs.Prelude.{◌≡◌, ◌⊎◌, ℕ, List, Option, Ok, Err, OnOk, OnErr}
 use Rattle.std.specs.Io.KnownBytes.{Appends, Keeps}
@@ -25,7 +25,7 @@ Writes old new = (text : List ℕ) × Appends old new text
 abbrev pub WritesFront : Option (List ℕ) → Option (List ℕ) → Type 0
 WritesFront old new = (text : List ℕ) × AppendsFront old new text
 
--- a mistake in the words, with text on standard error alone, whole or, where a write failed, in part
+-- a mistake in the arguments, with text on standard error alone, whole or, where a write failed, in part
 pub record Blames (end : ProgramOutcome) (line : Told) (written written' told told' : Option (List ℕ)) : Type 0 where
   pub ended : end ≡ Mistake
   pub silent : Keeps written written'

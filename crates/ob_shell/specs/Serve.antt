@@ -1,5 +1,5 @@
--- What the program does for its words: which task, or which fault of the words, and how it ends.
--- Source: this profile. What words are is the parser's, the crate clap's.
+-- What the program does for its arguments: which task, or which fault of the arguments, and how it ends.
+-- Source: this profile. What arguments are is the parser's, the crate clap's.
 use Rattle.std.specs.Prelude.{◌≡◌, ◌≢◌, ◌⊎◌, ℕ, List, [], Option, Result, Some, true}
 use Rattle.std.specs.Borrow.{Bor}
 use Rattle.std.specs.Fn.{FnOnceReturnsAt, Once}
@@ -17,10 +17,10 @@ use Rattle.ob_shell.specs.Plan.{Named, check, named, ntns, replay, script, sessi
 use Rattle.ob_shell.specs.Refuse.{Blames, Fails, Helps, IsRequest, Starves}
 use Rattle.ob_shell.specs.declared.planning.Task.{Task}
 
--- the words have no fault and name the file of this path
+-- the arguments have no fault and name the file of this path
 abbrev pub AsksFor : List Text → Text → Type 0
-AsksFor words path = (task_of (subcommand_of ntns words) ≡ Some (run path))
-    ⊎ ((task_of (subcommand_of ntns words) ≡ Some (threads path)) ⊎ ((task_of (subcommand_of ntns words) ≡ Some (replay path)) ⊎ (task_of (subcommand_of ntns words) ≡ Some (check path))))
+AsksFor arguments path = (task_of (subcommand_of ntns arguments) ≡ Some (run path))
+    ⊎ ((task_of (subcommand_of ntns arguments) ≡ Some (threads path)) ⊎ ((task_of (subcommand_of ntns arguments) ≡ Some (replay path)) ⊎ (task_of (subcommand_of ntns arguments) ≡ Some (check path))))
 
 -- what opening the file of a path may give, by a function that opens it
 abbrev pub Gives : {F I : Type 0} → Once F (Bor Text × Unit {0}) (Result I Error) → F → (I → Option (List ℕ)) → Text → Opened → Type 0
@@ -41,12 +41,12 @@ ServesNamed gives (threads path) task outcome line input written written' told t
 ServesNamed gives (replay path) task outcome line input written written' told told' = ServesFile gives path task outcome line written written' told told'
 ServesNamed gives (check path) task outcome line input written written' told told' = ServesFile gives path task outcome line written written' told told'
 
--- the words have no fault, and name the task that is done
-pub record ServesTask (gives : Text → Opened → Type 0) (words : List Text) (end : ProgramOutcome) (line : Told) (input written written' told told' : Option (List ℕ)) : Type 0 where
+-- the arguments have no fault, and name the task that is done
+pub record ServesTask (gives : Text → Opened → Type 0) (arguments : List Text) (end : ProgramOutcome) (line : Told) (input written written' told told' : Option (List ℕ)) : Type 0 where
   pub task : Task
   pub outcome : Result TaskOutcome ShellFault
-  pub asked : task_of (subcommand_of ntns words) ≡ Some (named task)
-  pub faultless : fault_of ntns words ≡ []
+  pub asked : task_of (subcommand_of ntns arguments) ≡ Some (named task)
+  pub faultless : fault_of ntns arguments ≡ []
   pub ended : end ≡ ends.Task outcome
   pub done : ServesNamed gives (named task) task outcome line input written written' told told'
 
@@ -58,14 +58,14 @@ pub record Refuses (kind : ErrorKind) (end : ProgramOutcome) (line : Told) (writ
   pub mistake : kind ≢ OutOfMemory → (IsRequest kind → ⊥)
       → Blames end line written written' told told' ⊎ Starves end line written written' told told'
 
--- the words have a fault, which is told; words that the parser takes have none but a lack of memory
-pub record ServesFault (words : List Text) (end : ProgramOutcome) (line : Told) (written written' told told' : Option (List ℕ)) : Type 0 where
+-- the arguments have a fault, which is told; arguments that the parser takes have none but a lack of memory
+pub record ServesFault (arguments : List Text) (end : ProgramOutcome) (line : Told) (written written' told told' : Option (List ℕ)) : Type 0 where
   pub kind : ErrorKind
-  pub stated : IsAmong kind (fault_of ntns words)
-  pub taken : takes ntns words ≡ true → kind ≡ OutOfMemory
+  pub stated : IsAmong kind (fault_of ntns arguments)
+  pub taken : takes ntns arguments ≡ true → kind ≡ OutOfMemory
   pub refused : Refuses kind end line written written' told told'
 
--- a task is done, or a fault of the words is told, or memory was wanting before
+-- a task is done, or a fault of the arguments is told, or memory was wanting before
 abbrev pub Serves : (Text → Opened → Type 0) → List Text → ProgramOutcome → Told → Option (List ℕ) → Option (List ℕ) → Option (List ℕ) → Option (List ℕ) → Option (List ℕ) → Type 0
-Serves gives words end line input written written' told told' = ServesTask gives words end line input written written' told told'
-    ⊎ (ServesFault words end line written written' told told' ⊎ Starves end line written written' told told')
+Serves gives arguments end line input written written' told told' = ServesTask gives arguments end line input written written' told told'
+    ⊎ (ServesFault arguments end line written written' told told' ⊎ Starves end line written written' told told')

@@ -30,7 +30,7 @@ pub enum ProgramOutcome {
     /// A task was done to this ending, or a fault ended it. Memory that was wanting before there was a
     /// task, a file that could not be opened, and help or a version that could not be written are such faults too.
     Task(Result<TaskOutcome, ShellFault>),
-    /// The words are a mistake.
+    /// The arguments are a mistake.
     Mistake,
     /// Help or the version that the arguments asked for was written.
     Help,
@@ -38,7 +38,7 @@ pub enum ProgramOutcome {
 
 impl ProgramOutcome {
     /// The program's status: 0 where the whole script was run, each line of a script that is checked is right, a session came to its end, a journal is accepted, or help or the version was written, 2 where
-    /// the words are a mistake, 3 where a journal is refused, and else 1. (this profile)
+    /// the arguments are a mistake, 3 where a journal is refused, and else 1. (this profile)
     pub fn status(&self) -> u8
         ensures { result ≡ status_of self.now }
     {

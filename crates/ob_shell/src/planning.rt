@@ -1,4 +1,4 @@
-//! What the program's words ask for.
+//! What the program's arguments ask for.
 
 ghost use Rattle.std.specs.Prelude.{◌≡◌, ◌≤◌, true, false, Some, IfOk, IfErr, length, map, option_map};
 ghost use Rattle.clap.specs.Words.{FailsBy, app_of, fault_of, kind_of, rule_of, subcommand_of, subcommand_rows_of, takes};
@@ -27,26 +27,26 @@ pub enum Task<'a> {
     Session,
 }
 
-/// The task that the words ask for. The first word is the program's name.
+/// The task that the arguments ask for. The first argument is the program's name.
 ///
-/// It is `Script` where no word follows the program's name, or `--` alone, and `Run` where
+/// It is `Script` where no argument follows the program's name, or `--` alone, and `Run` where
 /// these are `run` and a path, which is taken as it is, with `--` before or after it or without;
 /// so it is `Threads` where they are `threads` and a path, `Replay` where they are `replay` and a path, `Check` where they are `check` and a path, and `Session` where they are `session` alone. The task is what the parser
-/// `clap` states for these words and the program as `ntns` describes it. The faults are clap's: of the kinds that clap states for the words, which are mistakes, or
-/// the request for help or for the version; or out of memory, which alone can refuse words that name a task, as no
-/// words after the program's name do. (this profile)
-pub fn plan<'a, S: AsStr>(alloc: Global, words: &'a [S]) -> Result<Task<'a>, Error>
+/// `clap` states for these arguments and the program as `ntns` describes it. The faults are clap's: of the kinds that clap states for the arguments, which are mistakes, or
+/// the request for help or for the version; or out of memory, which alone can refuse arguments that name a task, as no
+/// arguments after the program's name do. (this profile)
+pub fn plan<'a, S: AsStr>(alloc: Global, arguments: &'a [S]) -> Result<Task<'a>, Error>
     ensures task { IfOk result (λ task.
-        task_of (subcommand_of ntns (map S.text words.now)) ≡ Some (named task)) }
-    ensures spelled { IfOk result (λ task. Spells (map S.text words.now) (named task)) }
-    ensures kinds { FailsBy (fault_of ntns (map S.text words.now)) result }
+        task_of (subcommand_of ntns (map S.text arguments.now)) ≡ Some (named task)) }
+    ensures spelled { IfOk result (λ task. Spells (map S.text arguments.now) (named task)) }
+    ensures kinds { FailsBy (fault_of ntns (map S.text arguments.now)) result }
     ensures memory { IfErr result (λ fault.
-        takes ntns (map S.text words.now) ≡ true → kind_of fault ≡ ErrorKind.OutOfMemory) }
-    ensures alone { length words.now ≤ 1 →
+        takes ntns (map S.text arguments.now) ≡ true → kind_of fault ≡ ErrorKind.OutOfMemory) }
+    ensures alone { length arguments.now ≤ 1 →
         IfErr result (λ fault. kind_of fault ≡ ErrorKind.OutOfMemory) }
 {
     match program(alloc) {
-        Ok(program) => match program.try_get_matches_from(words) {
+        Ok(program) => match program.try_get_matches_from(arguments) {
             Ok(matches) => match task_in(&matches) {
                 Some(task) => Ok(task),
                 None => unreachable!(),
@@ -84,7 +84,7 @@ fn task_in<'a>(matches: &ArgMatches<'a>) -> Option<Task<'a>>
     }
 }
 
-/// The fault of words that are no text: a mistake, as the parser's own are, or out of memory.
+/// The fault of arguments that are no text: a mistake, as the parser's own are, or out of memory.
 /// (this profile)
 pub fn unreadable(alloc: Global) -> Error
     ensures { IsMistakeOrWant (kind_of result) }

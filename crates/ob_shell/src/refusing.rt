@@ -1,4 +1,4 @@
-//! Ending where the words name no task.
+//! Ending where the arguments name no task.
 
 ghost use Rattle.std.specs.Prelude.{◌≡◌, ◌≢◌, ◌⊎◌};
 ghost use Rattle.clap.specs.Words.{kind_of};
@@ -12,7 +12,7 @@ use ob_output::{ShellFault, Unwritten, write_out};
 use std::alloc::Global;
 use std::io::Write;
 
-/// Tells the fault of the words, and how the program ends with it; and whether what standard error has to say was
+/// Tells the fault of the arguments, and how the program ends with it; and whether what standard error has to say was
 /// written whole.
 ///
 /// Out of memory, in the parser or for the text, is the fault `Memory`, reported on `errors`. Help or

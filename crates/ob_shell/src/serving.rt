@@ -1,4 +1,4 @@
-//! From the program's words to its status.
+//! From the program's arguments to its status.
 
 ghost use Rattle.std.specs.Prelude.{map};
 ghost use Rattle.ob_shell.specs.Serve.{AsksFor, Gives, Serves};
@@ -16,13 +16,13 @@ use std::io::{BufRead, Read, Write};
 use std::sync::Wait;
 use std::thread::Threads;
 
-/// Does what the words ask for, and tells how the program ends, and whether what standard error has to say was
-/// written whole. The first word is the program's name.
+/// Does what the arguments ask for, and tells how the program ends, and whether what standard error has to say was
+/// written whole. The first argument is the program's name.
 ///
-/// Where the words name a task and have no fault, it is done: `Script` and `Session` over the reader, and `Run`,
+/// Where the arguments name a task and have no fault, it is done: `Script` and `Session` over the reader, and `Run`,
 /// `Threads`, `Replay` and `Check` over the file that `opener` gives for their path. Nothing else is opened: `opener` need only be
-/// callable at the path that the words name, and is called for no script on standard input. A file
-/// that could not be opened is told as `perform_opened` says. A fault of the words is told instead,
+/// callable at the path that the arguments name, and is called for no script on standard input. A file
+/// that could not be opened is told as `perform_opened` says. A fault of the arguments is told instead,
 /// and out of memory before there was a task. (this profile)
 pub fn serve<
     'a,
@@ -36,19 +36,19 @@ pub fn serve<
 >(
     rt: &H,
     alloc: Global,
-    words: &'a [S],
+    arguments: &'a [S],
     opener: O,
     reader: &mut R,
     writer: &mut W,
     errors: &mut E,
 ) -> (ProgramOutcome, Result<(), Unwritten>)
-    requires { (path : _) → AsksFor (map S.text words.now) path.now → O.pre opener path }
-    ensures { Serves (Gives O.FnOnce opener I.remaining) (map S.text words.now) (result.0)
+    requires { (path : _) → AsksFor (map S.text arguments.now) path.now → O.pre opener path }
+    ensures { Serves (Gives O.FnOnce opener I.remaining) (map S.text arguments.now) (result.0)
         (result.1) (R.remaining reader.old)
         (W.contents writer.old) (W.contents writer.new)
         (E.contents errors.old) (E.contents errors.new) }
 {
-    match plan(alloc, words) {
+    match plan(alloc, arguments) {
         Ok(task) => {
             let (outcome, told) = match task {
                 Task::Script => perform(rt, alloc, task, reader, writer, errors),
