@@ -42,12 +42,13 @@ build:
 	@gate/build.py ntns
 
 bench: build lib
-	@gate/build.py callers
+	@gate/build.py callers viewers
 	bench/lines.py crates/ntns/out/ntns
 	bench/instructions.py crates/ntns/out/ntns
 	bench/growth.py crates/ntns/out/ntns
 	bench/journal.py crates/ntns/out/ntns
 	bench/threads.py crates/callers/out/callers
+	bench/viewers.py crates/viewers/out/viewers
 	bench/calls.py 100000
 
 hostile: build

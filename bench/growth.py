@@ -19,7 +19,7 @@ ROWS = (
     ("a miss", "#3f8f4f", 'p1 open any "\\M\\X" - =d\n'),
 )
 PICTURE = Path(__file__).resolve().parent.parent / "docs" / "growth.svg"
-WIDTH, HEIGHT, LEFT, RIGHT, TOP, BOTTOM = 720, 360, 70, 20, 20, 50
+WIDTH, HEIGHT, LEFT, RIGHT, TOP, BOTTOM = 720, 360, 70, 30, 20, 50
 
 
 def text(x, y, said, anchor="middle", colour="#222"):

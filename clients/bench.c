@@ -26,6 +26,7 @@ enum ask {
 	TEMPORARY, /* to make its object temporary */
 	ENTRY,     /* to list the first entry of the directory of that handle */
 	PAGE,      /* to list it in a page of 4,096 bytes */
+	COPY,      /* to copy the namespace, and close the copy */
 	CHILD,     /* to begin a child, which inherits handles */
 	EXIT       /* to end the last child */
 };
@@ -50,6 +51,7 @@ struct operation {
 };
 
 #define MANY { 20000, { { NUMBERED, "\\Many\\E", 0 }, { CLOSE, NULL, 0 } } }
+#define THOUSAND { 1000, { { NUMBERED, "\\Many\\E", 0 }, { CLOSE, NULL, 0 } } }
 #define FEW { 100, { { NUMBERED, "\\Many\\E", 0 }, { CLOSE, NULL, 0 } } }
 #define ONE(ask, name, attributes) { 1, { { ask, name, attributes } } }
 
@@ -84,6 +86,9 @@ static const struct operation operations[] = {
 	{ "open and close beside 60,000 handles",
 	  { { 60000, { { OPEN, "\\", 0 } } } },
 	  { { OPEN, "\\", 0 }, { CLOSE, NULL, 0 } } },
+	{ "copy a namespace of 1,000 events, and close the copy",
+	  { ONE(DIRECTORY, "\\Many", 0), THOUSAND },
+	  { { COPY, NULL, 0 } } },
 	{ "begin a child that inherits ten handles, and end it",
 	  { { 10, { { OPEN, "\\", NTNS_OBJ_INHERIT } } } },
 	  { { CHILD, NULL, 0 }, { EXIT, NULL, 0 } } },
@@ -129,6 +134,16 @@ static ntns_status first_page(struct hand *hand)
 	size_t length;
 
 	return ntns_next_page(&hand->ns, 1, hand->handle, &context, page, sizeof page, &length);
+}
+
+/* Copies the namespace, and closes the copy. */
+static bool copy(const struct hand *hand)
+{
+	ntns made = NTNS_CLOSED;
+	ntns_status status = ntns_copy(&hand->ns, &made);
+
+	ntns_close(&made);
+	return status == NTNS_STATUS_SUCCESS;
 }
 
 /* Asks for an object to be made. */
@@ -184,6 +199,8 @@ static bool is_answered(struct hand *hand, const struct asked *asked, uint32_t n
 		return first_entry(hand) == NTNS_STATUS_SUCCESS;
 	case PAGE:
 		return first_page(hand) == NTNS_STATUS_SUCCESS;
+	case COPY:
+		return copy(hand);
 	case CHILD:
 		return ntns_new_process(&hand->ns, 1, true, &hand->child) == NTNS_STATUS_SUCCESS;
 	case EXIT:

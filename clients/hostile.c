@@ -618,6 +618,44 @@ static void two_namespaces(void)
 	hold(is_closed(&moved), "and is closed", 0);
 }
 
+static void copies(void)
+{
+	ntns ns = opened(), closed = NTNS_CLOSED, copy = NTNS_CLOSED, second = NTNS_CLOSED;
+	uint32_t handle, given, type;
+	uint64_t user_data, id;
+	struct ntns_deletion deletion;
+
+	hold(ntns_copy(&closed, &copy) == S(INVALID_PARAMETER) && is_closed(&closed) && is_closed(&copy), "a closed namespace isn't copied", 0);
+	hold(ntns_copy(&closed, &closed) == S(INVALID_PARAMETER) && is_closed(&closed), "nor onto itself", 0);
+	ntns_create_object(&ns, 1, 0, TEXT("\\E"), 0, NTNS_TYPE_EVENT, 7, &handle);
+	ntns before = ns;
+	hold(ntns_copy(&closed, &ns) == S(INVALID_PARAMETER) && !memcmp(&ns, &before, sizeof ns), "an open one is no place for a copy", 0);
+	hold(ntns_copy(&ns, &ns) == S(INVALID_PARAMETER) && !memcmp(&ns, &before, sizeof ns), "nor for its own", 0);
+	hold(ntns_copy(&ns, &copy) == S(SUCCESS) && !memcmp(&ns, &before, sizeof ns), "an open one is copied, and its struct stays", 0);
+	if (copy.words[0] == ns.words[0]) {
+		hold(false, "a copy owns memory of its own", 0);
+		ntns_close(&ns);
+		return;
+	}
+	before = copy;
+	hold(ntns_copy(&ns, &copy) == S(INVALID_PARAMETER) && !memcmp(&copy, &before, sizeof copy), "a copy is no place for another", 0);
+	hold(ntns_query_object(&copy, 1, handle, &type, &user_data, &id) == S(SUCCESS) && type == NTNS_TYPE_EVENT && user_data == 7 && id == 1, "a copy has the handle, with its object", 0);
+	hold(ntns_close_handle(&copy, 1, handle) == S(SUCCESS), "which is closed in the copy", 0);
+	hold(ntns_query_object(&ns, 1, handle, &type, &user_data, &id) == S(SUCCESS), "and not in what was copied", 0);
+	hold(ntns_copy(&copy, &second) == S(SUCCESS), "a copy is copied", 0);
+	hold(ntns_next_deletion(&copy, &deletion) == S(SUCCESS) && deletion.id == 1, "a copy reports its own deletion", 0);
+	hold(ntns_next_deletion(&ns, &deletion) == S(NO_MORE_ENTRIES), "and alone", 0);
+	hold(ntns_next_deletion(&second, &deletion) == S(SUCCESS) && deletion.id == 1 && deletion.user_data == 7, "or its copy, which was made before", 0);
+	hold(ntns_create_object(&ns, 1, 0, TEXT("\\F"), 0, NTNS_TYPE_EVENT, 8, &given) == S(SUCCESS) && given != handle, "another object is made in what was copied", 0);
+	hold(ntns_open_object(&copy, 1, 0, TEXT("\\F"), 0, NTNS_TYPE_EVENT, &given) == S(OBJECT_NAME_NOT_FOUND), "and not in the copy", 0);
+	ntns_close(&ns);
+	hold(ntns_create_object(&copy, 1, 0, TEXT("\\G"), 0, NTNS_TYPE_EVENT, 9, &given) == S(SUCCESS) && given == handle, "a copy serves on without it", 0);
+	hold(ntns_query_object(&copy, 1, given, &type, &user_data, &id) == S(SUCCESS) && id == 2, "and draws the next id", 0);
+	ntns_close(&copy);
+	ntns_close(&second);
+	hold(is_closed(&copy) && is_closed(&second), "copies are closed", 0);
+}
+
 int main(void)
 {
 	closed_namespaces();
@@ -632,6 +670,7 @@ int main(void)
 	handles_listed();
 	opens_in_two_phases();
 	two_namespaces();
+	copies();
 	printf("%d passed, %d failed\n", passed, failed);
 	return failed != 0;
 }

@@ -4,7 +4,7 @@
  * in which nothing is refused, and so has each call behind it. What is there is compared through queries of every handle of every process; nothing may be told as
  * deleted but what a parse made, where its open is refused behind it (the sequence leaves nothing to be told before an open). A call may also answer as ever, where it
  * finds other memory than it asked for first. At the end of each run nothing may be left that the library was given. Calls that give back or only look take no
- * memory at all.
+ * memory at all. In one more run a copy is made before each call, in which the rest of the sequence answers as ever; what was copied stays as it is.
  *
  * The requests are those that the library makes of malloc, calloc and realloc; a linker that knows --wrap hands them to the functions below.
  *
@@ -454,11 +454,83 @@ static void play_all_refused(void)
 			at++;
 }
 
+/* Copies the namespace of a play; whether the copy has the same state. */
+static bool is_copied(struct play *play, ntns *copy)
+{
+	static struct state one, other;
+
+	if (ntns_copy(&play->ns, copy) != S(SUCCESS))
+		return false;
+	take_state(&one, &play->ns);
+	take_state(&other, copy);
+	return !strcmp(one.text, other.text);
+}
+
+/* Copies the namespace of a play before a call, with each request of the copy refused in turn, which leaves the copy closed. */
+static void copy_refused(struct play *play, size_t number)
+{
+	ntns copy = NTNS_CLOSED;
+	long had = blocks;
+
+	for (unsigned long at = 1;; at++) {
+		requests = refused = 0;
+		refused_at = at;
+		is_counted = true;
+		ntns_status status = ntns_copy(&play->ns, &copy);
+		is_counted = false;
+		if (!refused)
+			break;
+		if (status != S(NO_MEMORY) || copy.words[0] || copy.words[1] || blocks != had)
+			fail("a copy before call %zu, request %lu refused: %s, and %ld blocks are left", number, at, name_of(status), blocks - had);
+		passed++;
+	}
+	ntns_close(&copy);
+	if (blocks != had)
+		fail("a copy before call %zu leaves %ld blocks", number, blocks - had);
+}
+
+/* Goes on from a call in a copy of the namespace: each call answers there as ever, and what was copied stays as it is. */
+static void play_on_in_copy(struct play *play, size_t number)
+{
+	static struct play copy;
+	static struct state before, after;
+
+	take_state(&before, &play->ns);
+	copy = *play;
+	copy.ns = (ntns)NTNS_CLOSED;
+	bool is_well = is_copied(play, &copy.ns);
+	for (size_t next = number; is_well && next < made_count; next++)
+		is_well = answers_as_ever(&copy, next);
+	ntns_close(&copy.ns);
+	take_state(&after, &play->ns);
+	if (is_well && !strcmp(before.text, after.text))
+		passed++;
+	else
+		fail("a copy before call %zu %s", number, is_well ? "changes what was copied" : "answers another thing");
+}
+
+/* Plays the sequence, and goes on in a copy before each call too; before one of forty each request for memory of a copy is refused in turn. */
+static void play_copied(void)
+{
+	static struct play play;
+
+	begin(&play);
+	for (size_t number = 0; number < made_count; number++) {
+		if (number % 40 == 39)
+			copy_refused(&play, number);
+		play_on_in_copy(&play, number);
+		if (!answers_as_ever(&play, number))
+			fail("call %zu answers another thing after a copy", number);
+	}
+	end(&play);
+}
+
 int main(void)
 {
 	lay_out();
 	play_whole();
 	play_all_refused();
+	play_copied();
 	refuses_all = true;
 	play_all_refused();
 	printf("%d passed, %d failed\n", passed, failed);

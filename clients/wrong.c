@@ -61,6 +61,60 @@ INSTEAD(ntns_status, ntns_open, ntns *ns)
 	return __real_ntns_open(ns);
 }
 
+#elif defined COPY_SHARES
+INSTEAD(ntns_status, ntns_copy, const ntns *from, ntns *to)
+{
+	if (!from->words[0] || to->words[0])
+		return S(INVALID_PARAMETER);
+	*to = *from;
+	return S(SUCCESS);
+}
+
+#elif defined COPY_INTO_AN_OPEN_ONE
+INSTEAD(ntns_status, ntns_copy, const ntns *from, ntns *to)
+{
+	if (to != from)
+		ntns_close(to);
+	return __real_ntns_copy(from, to);
+}
+
+#elif defined COPY_IS_NEW
+INSTEAD(ntns_status, ntns_copy, const ntns *from, ntns *to)
+{
+	return from->words[0] ? ntns_open(to) : S(INVALID_PARAMETER);
+}
+
+#elif defined COPY_LOSES_DELETIONS
+INSTEAD(ntns_status, ntns_copy, const ntns *from, ntns *to)
+{
+	struct ntns_deletion deletion;
+	ntns_status status = __real_ntns_copy(from, to);
+	while (status == S(SUCCESS) && ntns_next_deletion(to, &deletion) == S(SUCCESS))
+		;
+	return status;
+}
+
+#elif defined COPY_TAKES_DELETIONS
+/* Takes the deletions away from what is copied. */
+INSTEAD(ntns_status, ntns_copy, const ntns *from, ntns *to)
+{
+	struct ntns_deletion deletion;
+	ntns lent = *from;
+	ntns_status status = __real_ntns_copy(from, to);
+	while (status == S(SUCCESS) && ntns_next_deletion(&lent, &deletion) == S(SUCCESS))
+		;
+	return status;
+}
+
+#elif defined COPY_LOSES_PENDING_OPENS
+INSTEAD(ntns_status, ntns_copy, const ntns *from, ntns *to)
+{
+	ntns_status status = __real_ntns_copy(from, to);
+	for (uint64_t ticket = 1; status == S(SUCCESS) && ticket < 1000; ticket++)
+		ntns_cancel_open(to, ticket);
+	return status;
+}
+
 #elif defined NOTHING_IS_CLOSED
 INSTEAD(ntns_status, ntns_close_handle, ntns *ns, uint32_t process, uint32_t handle)
 {

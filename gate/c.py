@@ -52,12 +52,18 @@ MADE_OF = {
 # the client that a wrong library of clients/wrong.c fails, if it is another than `cases`, by the library's macro
 FAILS = {
     "OPENS_AGAIN": "hostile",
+    "COPY_SHARES": "hostile",
+    "COPY_INTO_AN_OPEN_ONE": "hostile",
     "ROWS_HAVE_ONE_CONTEXT": "hostile",
     "ROW_PAST_THE_PLACES": "hostile",
     "LISTING_SKIPS_AFTER_A_CLOSE": "hostile",
     "COUNTS_HANDLES_OF_ONE_PROCESS": "hostile",
     "ENDED_PROCESS_IS_LISTED": "hostile",
     "CLOSE_FREES_NOTHING": "refusals",
+    "COPY_IS_NEW": "refusals",
+    "COPY_LOSES_DELETIONS": "refusals",
+    "COPY_TAKES_DELETIONS": "refusals",
+    "COPY_LOSES_PENDING_OPENS": "refusals",
     "REFUSED_MEMORY_AND_DONE": "refusals",
     "LOSES_MEMORY": "refusals",
 }

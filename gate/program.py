@@ -10,13 +10,14 @@ import re
 import subprocess
 import sys
 import tempfile
+import time
 from pathlib import Path
 
 import sessions
 from crates import ROOT
 from runs import Case, Count, dialogue, run, worked
 
-# the scripts of examples/, and what each prints beside it; the first is that of README.md
+# the scripts of examples/, and what each prints and the tree that it leaves beside it; the first is that of README.md
 EXAMPLES = ROOT / "examples"
 SCRIPT = (EXAMPLES / "first.ntns").read_bytes()
 SHOWN = (EXAMPLES / "first.out").read_bytes()
@@ -39,9 +40,12 @@ STRAY = b'{"n":2,"reply":{"status":0},"seat":0,"step":{"op":"abandon","parse":"n
 LINE_LIMIT, JOURNAL_LIMIT = 262_144, 268_435_456
 ENTRY_LIMIT, CLOSES = 1_048_576, 1_048_576 - 33
 
+# so many entries are drawn in at most so many seconds more than the replies to their script take
+DRAWN, DRAWN_SECONDS = 20_000, 1
+
 # arguments of which one is an unknown command, or an unexpected argument, or a mistake that is reported in another way
-UNKNOWN = ("ntns", "RUN", "runs", "thread", "replays", "checks", "sessions")
-UNEXPECTED = (("-x",), ("--other",), ("--run",), *((command, *others) for command in ("run", "threads", "replay", "check") for others in (("-x",), ("--version",), ("a", "b"))), ("session", "a"), ("session", "-x"))
+UNKNOWN = ("ntns", "RUN", "runs", "thread", "replays", "checks", "sessions", "trees")
+UNEXPECTED = (("-x",), ("--other",), ("--run",), *((command, *others) for command in ("run", "threads", "replay", "check", "tree") for others in (("-x",), ("--version",), ("a", "b"))), ("session", "a"), ("session", "-x"))
 MISTAKEN = (("-",), ("",), ("--", "run", "a"))
 
 
@@ -56,6 +60,7 @@ def arguments():
     yield Case("arguments that are no text end with 2", (b"\xff",), 2, errors=no_text)
     for script in sorted(EXAMPLES.glob("*.ntns")):
         yield Case(f"examples/{script.name} prints its .out", ("run", str(script)), 0, script.with_suffix(".out").read_bytes())
+        yield Case(f"examples/{script.name} leaves its .tree", ("tree", str(script)), 0, script.with_suffix(".tree").read_bytes())
 
 
 def mistakes():
@@ -190,6 +195,25 @@ def thinned():
     yield "p1 list t 1048576 first | SUCCESS" + "".join(f' "{name}" Event' for name in names[1::2])
 
 
+def fault_of_large_tree(program):
+    """What is wrong with the tree of many directories: of a hundred nested ones, each with as many names as the others."""
+    rows = ['p1 dir "\\T0" P =t']
+    for n in range(DRAWN // 200):
+        for name in range(199):
+            rows += [f'p1 make Event t:"E{name:03}" P "" =e', "p1 close e"]
+        rows += ["p1 close t", f'p1 dir "{"".join(f"{chr(92)}T{it}" for it in range(n + 2))}" P =t'] if n + 1 < DRAWN // 200 else []
+    script = "".join(f"{row}\n" for row in rows).encode()
+    began = time.monotonic()
+    replies = run([program, "run", "FILE"], script)
+    ran = time.monotonic()
+    left = run([program, "tree", "FILE"], script)
+    seconds = (time.monotonic() - ran) - (ran - began)
+    lines = left.output.count(b"\n")
+    if (left.status, left.errors, lines, replies.status) != (0, b"", DRAWN + 8, 0):
+        return f"a large tree has {lines} lines, and ends with {left.status} and {left.errors}"
+    return "" if seconds <= DRAWN_SECONDS else f"a tree of {DRAWN} entries takes {seconds:.2f} s more than its replies"
+
+
 def fault_of_mistake(program, folder, words, says):
     """What is wrong with a run whose arguments are a mistake."""
     left = run([program, *words], SCRIPT, folder)
@@ -204,7 +228,7 @@ def faults_of_texts(program):
     shown, manual = run([program, "--help"]).output.decode(), MANUAL.read_text()
     tasks, options, examples = (re.findall(row, shown, re.MULTILINE) for row in (r"^  (?!ntns)([a-z]+) ", r"^  -(.), --([a-z]+)", r"^  (ntns .*?)  "))
     lines = [f".It Cm {task}" for task in tasks] + [f".It Fl {short} , Fl -{long}" for short, long in options] + [f".Dl {example}" for example in examples]
-    yield "" if (len(tasks), len(options), len(examples)) == (6, 2, 6) else f"help names {len(tasks)} tasks, {len(options)} options and {len(examples)} examples"
+    yield "" if (len(tasks), len(options), len(examples)) == (7, 2, 7) else f"help names {len(tasks)} tasks, {len(options)} options and {len(examples)} examples"
     yield from ("" if f"\n{line}" in manual else f"the manual page has no line {line!r}" for line in lines)
 
 
@@ -223,6 +247,7 @@ def main():
                 count.add(case.shows, [case.fault(program, folder)])
         count.add("sessions over two pipes, and over input that is there at once", sessions.faults(program))
         count.add("the version and the manual page", faults_of_texts(program))
+        count.add("a large tree is drawn in time", [fault_of_large_tree(program)])
         for words, says in mistakes():
             count.add(f"{' '.join(words)!r} is a mistake", [fault_of_mistake(program, folder, words, says)])
     return count.end()

@@ -8,15 +8,18 @@
 - each read gives and each write takes one byte.
 
 A run out of memory ends as the whole run, or with `N: want of memory` after the replies to the lines before N, or with `ntns: want of memory` and no output.
-A parse out of memory ends nothing: its line replies NO_MEMORY, and the run goes on as that of the script in which the open there is refused, or given up. A
-run whose read fails writes nothing; one whose write fails leaves a prefix of the output.
+A parse out of memory ends nothing: its line replies NO_MEMORY, and the run goes on as that of the script in which the open there is refused, or given up. Of
+`tree` such a line is all that a run out of memory writes. A run whose read fails writes nothing; one whose write fails leaves a prefix of the output.
 
 The program that `--steps` names, `callers`, makes steps under the lock of a namespace that four callers share, a line each, with the argument `refused`, and
 the Nth alone if N follows; it says whether anything changed where a step was out of memory. It is run with each request of each step refused in turn: each
 line then says that nothing had changed, and what it says without, with the same journal, which `PROGRAM` has to accept. `hostile/callers.txt` says how many
 requests each step makes, so that one that creeps into an open, or into a close, is seen.
 
-    gate/refusals.py PROGRAM [--steps STEPS] [--long] [SCRIPT..]      --long: longer scripts, and the scripts that are named, in place of the gate's cases
+The program that `--viewers` names, `viewers`, publishes with the argument `refused`, a step at a time. It is run with each of its requests refused in turn: unless the
+open itself is out of memory, it says that viewers saw what they had seen, and that the next publish showed all.
+
+    gate/refusals.py PROGRAM [--steps STEPS] [--viewers VIEWERS] [--long] [SCRIPT..]      --long: longer scripts, and the scripts that are named, in place of the gate's cases
     gate/refusals.py PROGRAM --steps STEPS --renew                    writes that text anew
 """
 
@@ -42,11 +45,21 @@ COMPILE = ("-std=c11", "-shared", "-fPIC", "-O2", "-Wall", "-Wextra", "-Werror")
 
 # input of eleven reads, and output of three writes
 LONG = b'p1 opendir "\\" - =r\n#' + b"x" * 9_000 + b'\np1 make Event r:"' + b"n" * 30_000 + b'" - "" =e\n' + b"p1 name e\n" * 5
+
+# a script that leaves an object of each sort, and parses nothing
+TREE = b'p1 dir "\\A" P =a\np1 shadow a none I =s\np1 link a:"L" E "\\A" =l\np1 make Event s:"E" - "" =e\np1 new inherit =q\nq map s\n'
 BAD = b'p1 dir "\\A" - =a\nno line\np1 close a\n'
 
 OUT_OF_MEMORY = Left(1, b"", b"ntns: want of memory\n")
 NO_READ = Left(1, b"", b"ntns: cannot read\n")
 NO_WRITE = b"ntns: cannot write\n"
+
+# lines of a session, of which none depends on another
+SESSION = b"tree\nstat\ntree\np1 close a\n"
+
+CAUGHT_UP = Left(0, b"after a refused publish the next shows all: yes\n", b"")
+NOT_OPENED = b"after a refused publish the next shows all: NO\n"
+FEWEST_LATE = 40
 
 
 @dataclass(frozen=True)
@@ -84,7 +97,11 @@ def cases(journal):
     yield Case("a script that is no journal", ("replay", "FILE"), BAD, "other")
     yield Case("the check of a script", ("check", "FILE"), BAD, "other")
     yield Case("the check of a script of which much is wrong", ("check", "FILE"), b"no line\n" * 3_000, "other")
+    yield Case("a session with trees", ("session",), SESSION, "session")
     yield Case("a file that isn't there", ("run", "missing"), kind="other")
+    yield Case("a tree", ("tree", "FILE"), TREE, "tree")
+    yield Case("a tree in JSON", ("tree", "--json", "FILE"), TREE, "tree")
+    yield Case("the tree of a script with a bad line", ("tree", "FILE"), BAD, "tree")
     yield Case("help", ("--help",), kind="other")
     yield Case("the version", ("--version",), kind="other")
     yield Case("a mistake in the arguments", ("other",), kind="other")
@@ -201,6 +218,19 @@ def fault_of_workers(bench, whole, left):
     return ""
 
 
+def fault_of_session(whole, left):
+    """What is wrong with the session of these lines that was refused memory: each line has its reply, or says that memory ran out, until a read runs out of it."""
+    drawn, first, last = whole.output[: whole.output.index(b"2: ")], *re.findall(rb"^[24]: .*\n", whole.output, re.MULTILINE)
+    rest, count = left.output, 0
+    for number, reply in enumerate((drawn, first, drawn, last), 1):
+        said = next((it for it in (reply, b"%d: want of memory\n" % number) if rest.startswith(it)), None)
+        if said is None:
+            break
+        rest, count = rest[len(said) :], number
+    is_whole = count == 4 and (left.status, left.errors) == (0, b"")
+    return "" if not rest and (is_whole or (left.status, left.errors) == (1, OUT_OF_MEMORY.errors)) else "a line has another reply"
+
+
 def fault_of_refused(bench, case, whole, left):
     """What is wrong with a run that was refused memory, of which this is the whole run."""
     if left == OUT_OF_MEMORY:
@@ -209,6 +239,10 @@ def fault_of_refused(bench, case, whole, left):
         return fault_of_workers(bench, whole, left)
     if case.kind == "lines":
         return fault_of_lines(bench, case, whole, left)
+    if case.kind == "session":
+        return fault_of_session(whole, left)
+    if case.kind == "tree" and left.status == 1 and not left.errors and re.fullmatch(rb"\d+: want of memory\n", left.output):
+        return ""
     return "" if left == whole else "it ends in another way"
 
 
@@ -228,10 +262,12 @@ def refused_runs(bench, case, whole, variable):
 
 
 def failed_reads(bench, case, whole, settings):
-    """The runs whose Nth read fails: they write nothing and say so."""
+    """The runs whose Nth read fails: they write nothing, or a session the replies to the lines that it read, and say so. A session makes an interrupted read again."""
     for number in range(1, whole.reads + 1):
         left = bench.run(case.words, case.script, FAIL_READ=number, **settings).left
-        yield f"FAIL_READ={number}", left, "" if left == NO_READ else "it goes on"
+        is_cut = (left.status, left.errors) == (1, NO_READ.errors) and whole.left.output.startswith(left.output)
+        is_session = case.kind == "session" and (left == whole.left if settings else is_cut)
+        yield f"FAIL_READ={number}", left, "" if left == NO_READ or is_session else "it goes on"
 
 
 def failed_writes(bench, case, whole, settings):
@@ -326,12 +362,25 @@ def faults_of_steps(bench, program):
         yield "" if refused or not requests else f"{line.decode()}: it was never refused"
 
 
+def faults_of_viewers(bench):
+    """What is wrong with the run of viewers whose Nth request is refused, for every N."""
+    whole, refused_late = bench.whole(("refused",)), 0
+    yield "" if whole.left == CAUGHT_UP else f"it left {whole.left}"
+    for number in range(1, whole.requests + 1):
+        left = bench.run(("refused",), b"", REFUSE_REQUEST=number).left
+        refused_late += left == CAUGHT_UP
+        is_early = left.status == 1 and left.output in (b"", NOT_OPENED)
+        yield "" if left == CAUGHT_UP or is_early else f"refused request {number}: it left {left}"
+    yield "" if refused_late >= FEWEST_LATE else f"only {refused_late} requests were refused after the open"
+
+
 def main():
-    parser = argparse.ArgumentParser(usage="gate/refusals.py PROGRAM [--steps STEPS] [--renew] [--long] [SCRIPT..]")
+    parser = argparse.ArgumentParser(usage="gate/refusals.py PROGRAM [--steps STEPS] [--viewers VIEWERS] [--renew] [--long] [SCRIPT..]")
     parser.add_argument("program", type=Path)
     parser.add_argument("scripts", type=Path, nargs="*")
     parser.add_argument("--long", action="store_true")
     parser.add_argument("--steps", type=Path)
+    parser.add_argument("--viewers", type=Path)
     parser.add_argument("--renew", action="store_true")
     asked = parser.parse_intermixed_args()
     count = Count("refusals")
@@ -346,6 +395,7 @@ def main():
         else:
             found = cases(bench.run(("threads", "FILE"), (HOSTILE / "workers.ntns").read_bytes()).left.output)
         played = [(asked.steps.name, faults_of_steps(steps, bench.program))] if steps else []
+        played += [(asked.viewers.name, faults_of_viewers(Bench(asked.viewers, folder)))] if asked.viewers else []
         played += [(case.shows, faults_of_case(bench, case)) for case in found]
         for shows, faults in [(shows, pool.submit(list, tried(faults))) for shows, faults in played]:
             count.add(shows, faults.result())

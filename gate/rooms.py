@@ -10,7 +10,7 @@ from crates import listed, with_dependencies
 
 def shown():
     """The crates of the diagram: all but those of tests."""
-    return [it for it in listed() if not it.endswith("_tests") and it not in ("ob_stage", "ob_flat_model", "callers")]
+    return [it for it in listed() if not it.endswith("_tests") and it not in ("ob_stage", "ob_flat_model", "callers", "viewers")]
 
 
 def directly_below(crate):

@@ -67,7 +67,7 @@ def dialogue(shows, rows):
 
 def sections(path):
     """The names and texts of a table's parts, each after a line `== NAME`."""
-    for section in re.split("^== ", path.read_bytes().decode("ascii"), flags=re.MULTILINE)[1:]:
+    for section in re.split("^== ", path.read_bytes().decode("utf-8"), flags=re.MULTILINE)[1:]:
         name, _, text = section.partition("\n")
         yield name, text
 

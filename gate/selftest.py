@@ -96,11 +96,11 @@ def of_edits():
 MERGED = re.compile(r"^(?:<{7}|>{7}) ", re.MULTILINE)
 
 
-# the documents that show code: its language, the folder of the files that it stands in, and how many pieces there are
+# the documents that show code: its language, the folders of the files that it stands in, and how many pieces there are
 SHOWN = [
-    ("docs/threads.md", "rust", "crates/callers/src", 3),
-    ("docs/emulator.md", "c", "examples/nt", 9),
-    ("README.md", "rust", "crates/ob_standard_core/src", 1),
+    ("docs/threads.md", "rust", ("crates/callers/src", "crates/viewers/src"), 5),
+    ("docs/emulator.md", "c", ("examples/nt",), 9),
+    ("README.md", "rust", ("crates/ob_standard_core/src",), 1),
 ]
 
 
@@ -125,10 +125,10 @@ def of_documents():
     yield "the diagram of the crates is that of crates.txt", rooms.diagram() in map_page, True
     yield "the map names each crate", [it for it in listed() if it not in map_page and not it.endswith("_tests")], []
     yield "each link leads somewhere", [*broken_links()], []
-    for document, language, folder, pieces in SHOWN:
-        source = "".join(path.read_text() for path in sorted(ROOT.glob(f"{folder}/*.*")))
+    for document, language, folders, pieces in SHOWN:
+        source = "".join(path.read_text() for folder in folders for path in sorted(ROOT.glob(f"{folder}/*.*")))
         shown = re.findall(rf"\n```{language}\n(.*?)```\n", (ROOT / document).read_text(), re.DOTALL)
-        yield f"what {document} shows stands in {folder}", [text for text in shown if text not in source], []
+        yield f"what {document} shows stands in {' or '.join(folders)}", [text for text in shown if text not in source], []
         yield f"{document} shows code", len(shown), pieces
     count = len(crates.with_dependencies(library.CRATE))
     yield f"README.md says that the library has {count} crates", f"the {count} crates of the static library" in (ROOT / "README.md").read_text(), True

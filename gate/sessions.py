@@ -5,6 +5,17 @@ import subprocess
 
 from runs import SECONDS, Case
 
+TREE = """\
+\\                                        Directory permanent
+├── BaseNamedObjects                     Directory permanent
+├── Device                               Directory permanent
+├── DosDevices                           SymbolicLink permanent -> \\??
+├── E                                    Event handles 1
+├── GLOBAL??                             Directory permanent
+└── Sessions                             Directory permanent
+process 1
+    1 \\E"""
+
 # lines of sessions, each with its reply, and without one if it has none; a session goes on after a line that is no script line
 SESSIONS = {
     "a reply comes before the next line is sent": [
@@ -23,6 +34,12 @@ SESSIONS = {
         ("#" * 262_144, ""),
         ("x" * (1 << 24), "5: not a script line: column 262145, the end of the line"),
         ("p1 close a", "6: INVALID_HANDLE"),
+    ],
+    "a tree comes before the next line is sent, and has no number": [
+        ('p1 make Event "\\E" - "" =e', "1: SUCCESS"),
+        ("tree", TREE),
+        ("p1 close e", "3: SUCCESS"),
+        ("Tree", "4: not a script line: column 1, P or stat"),
     ],
     "an open is pending from one line to another": [
         ('p1 make Device "\\Device\\D" - "" =d', "1: SUCCESS"),
@@ -46,7 +63,7 @@ def fault_of(program, rows):
                     continue
                 if not select.select([ran.stdout], [], [], SECONDS)[0]:
                     return f"{line[:80]!r} has no reply"
-                said = ran.stdout.readline()
+                said = b"".join(ran.stdout.readline() for _ in range(reply.count("\n") + 1))
                 if said != f"{reply}\n".encode():
                     return f"{line[:80]!r} is answered {said[:80]!r}, and not {reply!r}"
             rest, errors = ran.communicate(timeout=SECONDS)

@@ -50,7 +50,7 @@ part ci rt ci
 gate/build.py --after "$before"
 run program gate/program.py crates/ntns/out/ntns > "$logs/program" &
 run cases gate/cases.py crates/ntns/out/ntns crates/callers/out/callers > "$logs/cases" &
-run refusals gate/refusals.py crates/ntns/out/ntns --steps crates/callers/out/callers > "$logs/refusals" &
+run refusals gate/refusals.py crates/ntns/out/ntns --steps crates/callers/out/callers --viewers crates/viewers/out/viewers > "$logs/refusals" &
 part c gate/c.py
 gather program cases refusals
 

@@ -46,7 +46,7 @@ extern "C" {
 
 #define NTNS_VERSION 1
 
-/* A namespace: all zeros before it is opened and after it is closed. It may be moved between calls, and isn't copied. */
+/* A namespace: all zeros before it is opened and after it is closed. It may be moved between calls; ntns_copy makes another. */
 typedef struct ntns {
 	uintptr_t words[2];
 } ntns;
@@ -140,6 +140,14 @@ enum ntns_type {
  * INVALID_PARAMETER if it is open already, NO_MEMORY; then `ns` is as it was.
  */
 ntns_status ntns_open(ntns *ns);
+
+/*
+ * Opens `to` in the state of `from`, which stays as it is: with the same processes, handles, ids and contexts, the opens that are
+ * pending, under the same tickets, and the deletions that weren't taken yet. No call on one changes the other. It is a call on both,
+ * and takes a time that grows with all that `from` has. `to` is closed before.
+ * INVALID_PARAMETER (`from` is closed, or `to` is open; both stay as they are), NO_MEMORY; then `to` stays closed.
+ */
+ntns_status ntns_copy(const ntns *from, ntns *to);
 
 /*
  * Closes a namespace: all memory that it owns is freed, opens that are pending are given up, and `ns` is all zeros. Nothing is reported

@@ -1,11 +1,18 @@
 /*
- * The calls of ntns.h that the proved part of the library can't export under their own names, since an export takes no NULL and returns no pointer: each
- * passes its arguments on, with an empty text in the place of NULL. The other calls are exported as they are.
+ * The calls of ntns.h that the proved part of the library can't export under their own names, since an export takes no NULL and no const namespace, and
+ * returns no pointer: each passes its arguments on, with an empty text in the place of NULL. The other calls are exported as they are.
  */
 #include "raw.h"
 
 /* An empty text stands in for NULL; what its length was said to be doesn't count then. */
 #define TEXT(text, length) (text) ? (text) : "", (text) ? (length) : 0
+
+/* The export takes the struct of `from` apart and puts it together again, so it is lent another of the same words; the memory behind them stays where it is. */
+ntns_status ntns_copy(const ntns *from, ntns *to)
+{
+	ntns lent = *from;
+	return ntns_copy_raw(&lent, to);
+}
 
 ntns_status ntns_create_directory(ntns *ns, uint32_t process, uint32_t root, const char *name, size_t name_len, uint32_t attributes,
 				  uint32_t *handle)

@@ -1,12 +1,13 @@
 /*
  * What the proved part of the library exports under names of its own. It differs from ntns.h in this: no pointer is NULL, a name says beside it whether
- * there is one, and a text is written through a pointer, NULL where there is none.
+ * there is one, a text is written through a pointer, NULL where there is none, and the namespace that is copied isn't const.
  */
 #ifndef RAW_H
 #define RAW_H
 
 #include "ntns.h"
 
+ntns_status ntns_copy_raw(ntns *from, ntns *to);
 ntns_status ntns_create_directory_raw(ntns *ns, uint32_t process, uint32_t root, bool named, const char *name, size_t name_len,
 				      uint32_t attributes, uint32_t *handle);
 ntns_status ntns_create_shadowed_raw(ntns *ns, uint32_t process, uint32_t root, bool named, const char *name, size_t name_len,

@@ -109,7 +109,7 @@ class Type(enum.IntEnum):
 
 
 class _Ntns(ctypes.Structure):
-    """A namespace: all zeros before it is opened and after it is closed. It may be moved between calls, and isn't copied."""
+    """A namespace: all zeros before it is opened and after it is closed. It may be moved between calls; ntns_copy makes another."""
 
     _fields_ = [("words", c_size_t * 2)]
 
@@ -141,6 +141,7 @@ class _Deletion(ctypes.Structure):
 # the result and the parameters of each call
 _CALLS = {
     "ntns_open": (c_uint32, [POINTER(_Ntns)]),
+    "ntns_copy": (c_uint32, [POINTER(_Ntns), POINTER(_Ntns)]),
     "ntns_close": (None, [POINTER(_Ntns)]),
     "ntns_create_directory": (c_uint32, [POINTER(_Ntns), c_uint32, c_uint32, c_char_p, c_size_t, c_uint32, POINTER(c_uint32)]),
     "ntns_create_shadowed": (c_uint32, [POINTER(_Ntns), c_uint32, c_uint32, c_char_p, c_size_t, c_uint32, c_uint32, POINTER(c_uint32)]),
@@ -277,6 +278,13 @@ class Namespace:
     def close(self):
         """Frees all memory of the namespace. It reports no deletions. Every other call is refused afterwards; another close does nothing."""
         _LIBRARY.ntns_close(byref(self._space))
+
+    def copy(self) -> "Namespace":
+        """Another namespace in the same state, pending opens and untaken deletions included. Neither changes the other afterwards."""
+        copy = Namespace.__new__(Namespace)
+        copy._space = _Ntns()
+        self._call("copy", byref(copy._space))
+        return copy
 
     def process(self, number: int = 1) -> "Process":
         """The process with this number."""

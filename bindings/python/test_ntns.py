@@ -215,6 +215,23 @@ class Ends(Bound):
         with Namespace() as other:
             self.refused(Status.OBJECT_NAME_NOT_FOUND, other.process().open, r"\A")
 
+    def test_a_copy_goes_its_own_way(self):
+        device = self.system.create_object(Type.DEVICE, r"\D", user_data=7, attributes=Attribute.PERMANENT)
+        event = self.system.create_object(Type.EVENT, user_data=8)
+        event.close()
+        pending = self.system.begin_open(r"\D\x")
+        with self.namespace.copy() as copy:
+            system = copy.process()
+            self.assertEqual(system.handle(device.value).query(), device.query())
+            self.assertEqual([it.user_data for it in copy.deletions()], [8])
+            self.assertEqual(ntns.Pending(system, pending.ticket, pending.object, pending.rest).end().file_text(), r"\x")
+            system.create_directory(r"\A")
+            self.refused(Status.OBJECT_NAME_NOT_FOUND, self.system.open, r"\A")
+        self.assertEqual([it.user_data for it in self.namespace.deletions()], [8])
+        pending.cancel()
+        self.namespace.close()
+        self.refused(Status.INVALID_PARAMETER, self.namespace.copy)
+
     def test_handles_of_others_are_no_roots(self):
         with Namespace() as other:
             root = other.process().create_directory(r"\A")

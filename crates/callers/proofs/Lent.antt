@@ -16,16 +16,14 @@ use Rattle.ob_device.proofs.device.DeviceInner.TheSendSync as inners
 use Rattle.ob_handles.specs.contracts.slab_table.SlabTable as table
 use Rattle.ob_handles.specs.contracts.slab_table.SlabTableHandleTable.TheImpl as handles
 use Rattle.ob_handles.proofs.slab_table.SlabTable.TheSendSync as tables
-use Rattle.std.specs.Prelude.{◌≡◌}
-use Rattle.ob_base.specs.declared.Fault.TheVariants.{Refused}
-use Rattle.ob_base.specs.declared.status.Status.TheVariants.{InvalidParameter}
-use Rattle.ob_shared.specs.declared.publishing.Publishing as Publishing
+use Rattle.std.specs.Prelude.{[]}
+use Rattle.ob_published.specs.declared.publishing.Publishing as Publishing
 use Rattle.ob_shared.specs.contracts.shared.Shared as shared
 use Rattle.ob_shared.proofs.Lent.{shared_sync}
 
 -- nothing is published
-abbrev nothing : Publishing.Ghosts unit.Denot (devices.the_row).Denot unit.Denot (kind.the_row).Denot (face.the_row).Denot (inner.the_row).Denot
-nothing = record { keeps = λ publisher h. Unit {0}; shows = λ publisher published h. ⊥; faults = λ fault. fault ≡ Refused InvalidParameter }
+abbrev nothing : Publishing.Ghosts unit.Denot unit.Denot
+nothing = record { publishes = ⊥; opening = []; leads = λ publications. Unit {0}; recorded = λ publisher. []; shown = λ publisher. []; known = λ published. [] }
 
 module _ (L : RattleType) (l : Ledger.Ghosts L.Denot) where
   -- the namespace, as the logic has it

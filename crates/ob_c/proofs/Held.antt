@@ -2,7 +2,6 @@
 use Rattle.std.proofs.Common.{◌≡◌, ℕ, Bool, ◌==◌, ◌&&◌, nat_lt, true, Option, None, Some, find, refl, sym}
 use Rattle.std.specs.Prelude.{option_map, IsSome}
 use Rattle.std.specs.Option.{is_some, option_and_then}
-use Rattle.ob_base.specs.Handle.{key_of}
 use Rattle.ob_core.specs.Listed.{handle_after}
 use Rattle.ob_model.specs.declared.state.Held.{Held}
 use Rattle.ob_model.specs.declared.state.Object.{Object}

@@ -1,4 +1,3 @@
-pub mod ToldLemmas
 pub mod PagesLemmas
 pub mod RowsLemmas
 pub mod Held

@@ -1,5 +1,5 @@
 -- Opens in two phases from what their parts do.
-use Rattle.std.proofs.Common.{◌≡◌, ◌∙◌, ℕ, ◌≤◌, ◌<◌, ◌==◌, ◌++◌, Bool, true, false, List, length, drop, nat_le, Option, None, Some, Result, option_map, is_some, refl, ap, sym, subst}
+use Rattle.std.proofs.Common.{◌≡◌, ℕ, ◌==◌, ◌++◌, true, false, List, length, drop, nat_le, Option, None, Some, Result, option_map, refl, ap, sym, subst}
 use Rattle.std.specs.Prelude.{IsSome, MatchBool, MatchOption}
 use Rattle.ob_base.specs.Status.{code_of}
 use Rattle.ob_base.specs.declared.status.Status.{Status}

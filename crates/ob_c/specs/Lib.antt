@@ -1,5 +1,4 @@
 pub mod Referents
-pub mod Told
 pub mod Objects
 pub mod Pages
 pub mod Deletions

@@ -13,7 +13,7 @@ use Rattle.ob_host.specs.declared.kind.Kind.{Kind}
 use Rattle.ob_host.specs.declared.kind.Kind.TheVariants.{File, Key}
 use Rattle.ob_host.specs.declared.object.HostObject.{HostObject}
 use Rattle.ob_c_state.specs.Machine.{Space}
-use Rattle.ob_c.specs.Told.{Fills, FillsNothing}
+use Rattle.ob_c_state.specs.Told.{Fills, FillsNothing}
 use Rattle.ob_c.specs.Referents.{id_of_body, type_of_body, user_data_of_body}
 
 -- a status and an object are reported, or a refusal with zeros

@@ -10,7 +10,7 @@ use Rattle.ob_model.specs.declared.entries.Listed.{Listed}
 use Rattle.ob_model.specs.declared.reply.Given.{Given}
 use Rattle.ob_model.specs.declared.reply.Given.TheVariants.{Nothing, Handle, Text, Process, Page}
 use Rattle.ob_model.specs.declared.reply.Reply.{Reply}
-use Rattle.ob_c.specs.Told.{FillsNothing}
+use Rattle.ob_c_state.specs.Told.{FillsNothing}
 use Rattle.ob_numbers.specs.Texts.{zero_ended}
 
 -- the room of a page for a buffer of so many bytes

@@ -25,7 +25,7 @@ use Rattle.ob_runner.specs.declared.begun.Begun.TheVariants.{Replied, Waits}
 use Rattle.ob_c_state.specs.Machine.{Space, host}
 use Rattle.ob_c_state.specs.Pending.{BeginsOpen}
 use Rattle.ob_c.specs.Referents.{id_of_body, type_of_body, user_data_of_body}
-use Rattle.ob_c.specs.Told.{TellsHandle}
+use Rattle.ob_c_state.specs.Told.{TellsHandle}
 use Rattle.ob_c.specs.declared.pending.BegunOpen.{BegunOpen}
 
 -- the number of STATUS_PENDING

@@ -14,7 +14,7 @@ use Rattle.ob_model.specs.declared.reply.Given.TheVariants.{Nothing, Handle, Tex
 use Rattle.ob_model.specs.declared.reply.Reply.{Reply}
 use Rattle.ob_c_state.specs.Machine.{Space}
 use Rattle.ob_c_state.specs.Calls.{Ends}
-use Rattle.ob_c.specs.Told.{given_in}
+use Rattle.ob_c_state.specs.Told.{given_in}
 use Rattle.ob_numbers.specs.Types.{IsTypeNumber}
 use Rattle.ob_c.specs.declared.rows.Row.{Row}
 use Rattle.ob_c.specs.declared.rows.Progress.{Progress}

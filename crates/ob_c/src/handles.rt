@@ -2,11 +2,10 @@
 
 ghost use Rattle.ob_model.specs.declared.command.Command.TheVariants.{Close, Duplicate, MakePermanent, MakeTemporary, SetDeviceMap};
 ghost use Rattle.ob_c_state.specs.Calls.{Does};
-ghost use Rattle.ob_c.specs.Told.{TellsHandle, TellsStatus};
+ghost use Rattle.ob_c_state.specs.Told.{TellsHandle, TellsStatus};
 
-use crate::called::{status_in, tell_handle};
 use ob_base::{Handle, Proc};
-use ob_c_state::{Ntns, call};
+use ob_c_state::{Ntns, call, status_in, tell_handle};
 use ob_core::Command;
 use std::alloc::Global;
 

@@ -2,11 +2,12 @@
 
 ghost use Rattle.ob_model.specs.declared.command.Command.TheVariants.{CreateDirectory, CreateShadowed, CreateLink, CreateObject};
 ghost use Rattle.ob_c_state.specs.Calls.{Does, DoesOfType, arguments_of, place_of};
-ghost use Rattle.ob_c.specs.Told.{TellsHandle};
+ghost use Rattle.ob_c_state.specs.Told.{TellsHandle};
 
-use crate::called::tell_handle;
 use ob_base::Status;
-use ob_c_state::{Ntns, call, create_directory, create_link, create_object, create_shadowed};
+use ob_c_state::{
+    Ntns, call, create_directory, create_link, create_object, create_shadowed, tell_handle,
+};
 use ob_numbers::kind_of;
 use std::alloc::Global;
 

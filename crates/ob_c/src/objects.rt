@@ -4,10 +4,9 @@ ghost use Rattle.std.specs.Prelude.{◌≡◌};
 ghost use Rattle.ob_core.specs.Referent.{referent_at};
 ghost use Rattle.ob_c.specs.Objects.{has_text, TellsFile, TellsObject, TellsReferent, TellsReferentText};
 
-use crate::buffers::{fill, fill_nothing};
 use crate::referents::{id_of, type_of, user_data_of};
 use ob_base::Status;
-use ob_c_state::{HostCore, Ntns};
+use ob_c_state::{HostCore, Ntns, fill, fill_nothing};
 use ob_core::Referent;
 use ob_host::Kind;
 use std::alloc::Global;

@@ -2,11 +2,10 @@
 
 ghost use Rattle.ob_model.specs.declared.command.Command.TheVariants.{OpenDirectory, OpenLink, OpenObject};
 ghost use Rattle.ob_c_state.specs.Calls.{Does, DoesOfAnyType, root_of};
-ghost use Rattle.ob_c.specs.Told.{TellsHandle};
+ghost use Rattle.ob_c_state.specs.Told.{TellsHandle};
 
-use crate::called::tell_handle;
 use ob_base::Status;
-use ob_c_state::{Ntns, call, open_directory, open_link, open_object};
+use ob_c_state::{Ntns, call, open_directory, open_link, open_object, tell_handle};
 use ob_host::Kind;
 use ob_numbers::kind_of;
 use std::alloc::Global;

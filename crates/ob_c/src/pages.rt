@@ -6,10 +6,9 @@ ghost use Rattle.ob_c_state.specs.Calls.{Does};
 ghost use Rattle.ob_c.specs.Pages.{PagesFit, TellsEntries, TellsPage, entry_bytes, page_bytes, room_left, room_within};
 ghost use Rattle.ob_numbers.specs.Texts.{zero_ended};
 
-use crate::buffers::fill_nothing;
 use crate::queries::LARGEST_ROOM;
 use ob_base::{Handle, Status};
-use ob_c_state::{Ntns, call};
+use ob_c_state::{Ntns, call, fill_nothing};
 use ob_core::{Command, Given, Reply};
 use ob_model::Listed;
 use std::alloc::Global;

@@ -14,12 +14,11 @@ ghost use Rattle.ob_runner.specs.Begun.{IfWaits};
 ghost use Rattle.ob_c_state.specs.Calls.{root_of};
 ghost use Rattle.ob_c_state.specs.Pending.{CancelsOpen, EndsOpen};
 ghost use Rattle.ob_c.specs.Pending.{CopiesRest, TellsBegin, TellsBeginOfAnyType, TellsBegun, TellsPending, no_pending, pending_told};
-ghost use Rattle.ob_c.specs.Told.{TellsHandle};
+ghost use Rattle.ob_c_state.specs.Told.{TellsHandle};
 
-use crate::called::tell_handle;
 use crate::referents::{id_of, type_of, user_data_of};
 use ob_base::Status;
-use ob_c_state::{HostCore, Ntns, open_object};
+use ob_c_state::{HostCore, Ntns, open_object, tell_handle};
 use ob_core::Reply;
 use ob_host::Kind;
 use ob_numbers::kind_of;

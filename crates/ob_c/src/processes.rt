@@ -2,10 +2,9 @@
 
 ghost use Rattle.ob_model.specs.declared.command.Command.TheVariants.{ExitProcess, NewProcess};
 ghost use Rattle.ob_c_state.specs.Calls.{Does};
-ghost use Rattle.ob_c.specs.Told.{TellsProcess, TellsStatus};
+ghost use Rattle.ob_c_state.specs.Told.{TellsProcess, TellsStatus};
 
-use crate::called::{process_in, status_in};
-use ob_c_state::{Ntns, call};
+use ob_c_state::{Ntns, call, process_in, status_in};
 use ob_core::Command;
 use std::alloc::Global;
 

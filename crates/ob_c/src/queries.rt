@@ -4,11 +4,10 @@ ghost use Rattle.std.specs.Prelude.{true, false};
 ghost use Rattle.ob_model.specs.Enumeration.{largest_room};
 ghost use Rattle.ob_model.specs.declared.command.Command.TheVariants.{QueryDirectory, QueryLink, QueryName};
 ghost use Rattle.ob_c_state.specs.Calls.{Does};
-ghost use Rattle.ob_c.specs.Told.{TellsEntry, TellsText};
+ghost use Rattle.ob_c_state.specs.Told.{TellsEntry, TellsText};
 
-use crate::buffers::{tell_entry, tell_text};
 use ob_base::Handle;
-use ob_c_state::{Ntns, call};
+use ob_c_state::{Ntns, call, tell_entry, tell_text};
 use ob_core::Command;
 use std::alloc::Global;
 

@@ -5,3 +5,5 @@ pub mod PendingOpens
 pub mod OneParse
 pub mod Rests
 pub mod Phases
+pub mod ToldLemmas
+pub mod Rising

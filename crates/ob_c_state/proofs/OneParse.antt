@@ -1,9 +1,9 @@
 -- No object of a caller's answers a parse with a text to be looked up: so an open waits for one parse, and is then answered.
-use Rattle.std.proofs.Common.{◌≡◌, ℕ, Bool, true, false, not, if◌then◌else◌, List, [], ◌∷◌, length, Option, None, Some, Result, Ok, Err, inl, inr, sym, subst}
+use Rattle.std.proofs.Common.{◌≡◌, ℕ, Bool, true, false, not, if◌then◌else◌, List, [], ◌∷◌, length, Option, None, Some, Ok, Err, inl, inr, sym, subst}
 use Rattle.std.specs.Prelude.{MatchOption}
 use Rattle.ob_base.specs.declared.status.Status.{Status}
 use Rattle.ob_base.specs.declared.status.Status.TheVariants.{Success, NoMemory, ObjectTypeMismatch, ProcessGone, TypeRefused}
-use Rattle.ob_host.specs.Host.{answer_below, answer_to, is_itself, kind_below, unopened}
+use Rattle.ob_host.specs.Host.{answer_below, is_itself, kind_below, unopened}
 use Rattle.ob_host.specs.Kept.{Kept}
 use Rattle.ob_host.specs.Objects.{object_below}
 use Rattle.ob_host.specs.declared.kind.Kind.{Kind}

@@ -1,5 +1,5 @@
 -- How a pending open is resumed and cancelled, from what is found of it and the step that is made.
-use Rattle.std.proofs.Common.{◌≡◌, ℕ, List, Option, None, Some, Ok, Err, option_map, refl, subst}
+use Rattle.std.proofs.Common.{◌≡◌, ℕ, List, None, Some, Ok, Err, option_map, refl, subst}
 use Rattle.ob_base.specs.declared.status.Status.TheVariants.{Success, InvalidParameter, NoMemory}
 use Rattle.ob_host.specs.declared.kind.Kind.{Kind}
 use Rattle.ob_model.specs.PendingOpens.{pending_of}

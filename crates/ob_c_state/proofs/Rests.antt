@@ -1,5 +1,5 @@
 -- The open that is pending under a ticket, by what is read of it and of its parse.
-use Rattle.std.proofs.Common.{◌≡◌, ◌∙◌, ℕ, ◌==◌, ◌||◌, Bool, true, false, cond, List, [], ◌∷◌, All, Option, None, Some, find, option_map, is_some, refl, ap, sym, subst, eqb-true}
+use Rattle.std.proofs.Common.{◌≡◌, ◌∙◌, ℕ, ◌==◌, ◌||◌, Bool, true, false, cond, List, [], ◌∷◌, Option, None, Some, find, option_map, is_some, refl, ap, sym, subst, eqb-true}
 use Rattle.std.specs.Prelude.{MatchOption}
 use Rattle.std.specs.List.{list_any}
 use Rattle.ob_host.specs.declared.kind.Kind.{Kind}

@@ -122,8 +122,18 @@ abbrev pub DoesOfAnyType : ℕ → ℕ → (Option Kind → Command Kind) → (o
 DoesOfAnyType zero p command old new Tells = Does p (command None) old new Tells
 DoesOfAnyType (suc n) p command old new Tells = DoesOfType (suc n) p (λ kind. command (Some kind)) old new Tells
 
--- a closed namespace is opened, or the call is out of memory and it stays closed; an open one is refused and stays
--- as it is
+-- a closed namespace is opened in a state, or the call is out of memory and it stays closed
+abbrev pub OpensIn : Space → (new : Option Space) → ℕ → Type 0
+OpensIn s new status = ((new ≡ Some s) × (status ≡ code_of Success)) ⊎ ((new ≡ None) × (status ≡ code_of NoMemory))
+
+-- a closed namespace is opened in the opening state; an open one is refused and stays as it is
 abbrev pub IsOpened : (old new : Option Space) → ℕ → Type 0
-IsOpened None new status = ((new ≡ Some (opening unused)) × (status ≡ code_of Success)) ⊎ ((new ≡ None) × (status ≡ code_of NoMemory))
+IsOpened None new status = OpensIn (opening unused) new status
 IsOpened (Some s) new status = (new ≡ Some s) × (status ≡ code_of InvalidParameter)
+
+-- a closed namespace is opened in the state of another; an open one, and a copy of a closed one, are refused and nothing
+-- changes
+abbrev pub IsCopied : (from old new : Option Space) → ℕ → Type 0
+IsCopied (Some s) None new status = OpensIn s new status
+IsCopied None None new status = (new ≡ None) × (status ≡ code_of InvalidParameter)
+IsCopied from (Some t) new status = (new ≡ Some t) × (status ≡ code_of InvalidParameter)

@@ -2,3 +2,4 @@ pub mod Machine
 pub mod Caller
 pub mod Calls
 pub mod Pending
+pub mod Told

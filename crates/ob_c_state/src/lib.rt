@@ -1,15 +1,21 @@
 //! The namespace that a caller in C holds, and commands that are run in it.
 //!
 //! The caller's struct is [`Ntns`]; if it is open, it owns a [`HostCore`], the namespace over the set of the caller's own
-//! objects. [`call`] runs a command in it. The exports for C are those of the crate above.
+//! objects. [`call`] runs a command in it, and [`tell_handle`] and its like report how it ended. The exports for C are those
+//! of the crate above.
 #![tactic(auto)]
 
+mod buffers;
+mod called;
 mod caller;
 mod calls;
 mod commands;
+mod copies;
 mod machine;
 mod parts;
 
+pub use buffers::{fill, fill_nothing, tell_entry, tell_text};
+pub use called::{process_in, status_in, tell_handle};
 pub use caller::Ntns;
 pub use calls::call;
 pub use commands::{

@@ -11,6 +11,7 @@ ghost use Rattle.ob_runner.specs.Begun.{IfWaits};
 ghost use Rattle.ob_c_state.specs.Calls.{Ends, EndsMade};
 ghost use Rattle.ob_c_state.specs.Pending.{BeginsMade, BeginsOpen, Cancels, EndsPending};
 
+use crate::copies::copied_waits;
 use ob_base::{Handle, ObjId, Proc, Status};
 use ob_core::{Command, Core, Referent, Reply, SlabTable};
 use ob_host::{HostDeletion, HostInner, HostObject, HostSet, Kind};
@@ -57,6 +58,18 @@ impl HostCore {
             }),
             Err(_) => Err(AllocError),
         }
+    }
+
+    /// Another namespace in the same state, with the same values of handles, ids, tickets of pending opens, and deletions
+    /// that weren't taken yet. A step of one changes nothing of the other. It takes a time that grows with all that is in
+    /// the state. The only error is out of memory. (this profile)
+    pub fn copy(&self, alloc: Global) -> Result<HostCore, AllocError>
+        ensures { IfOk result (λ copy. copy ≡ self.now) }
+    {
+        Ok(HostCore {
+            core: self.core.copy()?,
+            waits: copied_waits(alloc, &self.waits)?,
+        })
     }
 
     /// Runs a command of a process to its reply, and each parse that it waits for meanwhile; if it could not be made

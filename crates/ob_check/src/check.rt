@@ -21,7 +21,7 @@ use std::io::{Read, Write};
 // The bytes of output that are written at once.
 const BLOCK: usize = 65_536;
 
-/// What a check of a script finds. (this profile)
+/// The finding of a check of a script. (this profile)
 #[derive(Clone, Copy, PartialEq, Eq, Debug)]
 pub enum Checked {
     /// Each line is right where it is.
@@ -47,7 +47,7 @@ pub fn run_check<R: Read, W: Write>(
         IfSome (R.remaining reader.old) (λ script.
         WritesReportPart (W.contents writer.old) (W.contents writer.new) script) }
 
-    // After any fault but that of the writer nothing was written.
+    // After any fault except one of the writer nothing was written.
     ensures unwritten { IfErr result (λ fault. is_unwritten fault ≡ false →
         W.contents writer.new ≡ W.contents writer.old) }
     ensures faults { IfErr result (λ fault. fault ≢ ShellFault.Mismatch) }

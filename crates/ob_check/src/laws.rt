@@ -1,4 +1,4 @@
-//! What is true of all checks.
+//! The law of all checks.
 
 ghost use Rattle.ob_check.specs.Report.{CleanScriptsAreCut};
 

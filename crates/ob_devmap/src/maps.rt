@@ -1,6 +1,6 @@
 //! Which processes have a device map, and of which directory.
 
-ghost use Rattle.std.specs.Prelude.{◌≡◌, [], None, Some, OnOk, OnErr, IsTrue, ◌↔◌};
+ghost use Rattle.std.specs.Prelude.{◌≡◌, [], None, Some, IfOk, OnOk, OnErr, IsTrue, ◌↔◌};
 ghost use Rattle.ob_model.specs.State.{global_id};
 ghost use Rattle.ob_devmap.specs.Maps.{map_in, MapChanges, IsMapped};
 
@@ -46,6 +46,17 @@ impl Maps {
             directories: BTreeMap::new(alloc),
             counts: Counts::new(alloc),
         }
+    }
+
+    /// Other maps, of which each process has the same. It takes a time that grows with their number. The only error is
+    /// out of memory. (this profile)
+    pub fn copy(&self) -> Result<Maps, AllocError>
+        ensures { IfOk result (λ copy. copy ≡ self.now) }
+    {
+        Ok(Maps {
+            directories: self.directories.clone()?,
+            counts: self.counts.copy()?,
+        })
     }
 
     /// Gives a process a map of a directory, in place of the one that it had. Where memory runs out

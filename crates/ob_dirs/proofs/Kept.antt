@@ -1,10 +1,11 @@
 -- What a directory holds stays so, as an entry comes, is taken back, and goes.
-use Rattle.std.proofs.Common.{◌≡◌, ◌≢◌, ◌∙◌, ℕ, ◌<◌, Bool, true, false, cond, not, ◌==◌, List, [], ◌∷◌, ◌++◌, filter, find, All, None, Some, refl, ap, sym, subst}
+use Rattle.std.proofs.Common.{◌≡◌, ◌≢◌, ◌∙◌, ℕ, ◌-◌, ◌<◌, Bool, true, false, cond, not, ◌==◌, List, [], ◌∷◌, ◌++◌, filter, find, All, arith, length, get_or, None, Some, refl, ap, sym, subst}
 use Rattle.std.specs.Result.{is_err, OnErr, OnOk}
 use Rattle.std.specs.Set.{remove_key}
 use Rattle.std.proofs.Common.{Result, Ok, Err}
 use Rattle.std.proofs.lemmas.Bool.{eqb-true}
 use Rattle.std.proofs.lemmas.List.Kept.{AllPairs-filter}
+use Rattle.std.proofs.lemmas.List.{length-append, get_or_append_left, get_or-append_right}
 use Rattle.std.proofs.lemmas.List.Quantifiers.{all_pairs_push}
 use Rattle.ob_dirs.specs.declared.entry.DirEntry.{DirEntry}
 use Rattle.ob_dirs.specs.declared.index.NameIndex.{NameIndex}
@@ -40,6 +41,20 @@ none_goes stamp (e ∷ es) none = go (has_stamp stamp e) none (none_goes stamp e
         → cond (not b) (e ∷ filter (has_other stamp) es) (filter (has_other stamp) es) ≡ e ∷ es
     go true at more = cc
     go false at more = ap (λ xs. e ∷ xs) (more at)
+
+-- an entry of a directory comes after each of those before it
+pub comes_before : (xs : List DirEntry) (e : DirEntry) (ys entries rest : List DirEntry) → IsDir entries → rest ≡ e ∷ ys → xs ++ rest ≡ entries
+    → (k : ℕ) (d : DirEntry) → k < length xs → ComesBefore (get_or xs k d) e
+comes_before xs e ys entries rest dir next whole k d below =
+    let cut : xs ++ e ∷ ys ≡ entries = ap (λ (es : List DirEntry). xs ++ es) (sym next) ∙ whole in
+    let within : length xs < length (xs ++ e ∷ ys) = omega (arith, length-append xs (e ∷ ys)) in
+    let none : length xs - length xs ≡ 0 = omega arith in
+    let here : get_or (xs ++ e ∷ ys) (length xs) d ≡ e =
+    get_or-append_right xs (e ∷ ys) (length xs) (length xs) d refl (omega arith) ∙ ap (λ (n : ℕ). get_or (e ∷ ys) n d) none
+    in
+    subst (λ (x : DirEntry). ComesBefore (get_or xs k d) x) here
+    (subst (λ (x : DirEntry). ComesBefore x (get_or (xs ++ e ∷ ys) (length xs) d)) (get_or_append_left xs (e ∷ ys) d k below)
+    (subst IsDir (sym cut) dir k (length xs) d below within))
 
 module _ (es fs : List DirEntry) (old : NameIndex) (held : IsHeld es old) where
   -- an entry comes behind the others

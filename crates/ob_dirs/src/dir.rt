@@ -54,6 +54,19 @@ impl Dir {
         Dir { held: None, alloc }
     }
 
+    /// Another directory with the same entries. It takes a time that grows with their number. The only error is
+    /// out of memory.
+    pub fn copy(&self) -> Result<Dir, AllocError>
+        ensures { IfOk result (λ copy. copy ≡ self.now) }
+    {
+        let mut copy = Dir::new(self.alloc);
+        for entry in self.iter() {
+            let name = entry.name.copy()?;
+            copy.insert(entry.stamp, name, entry.object)?;
+        }
+        Ok(copy)
+    }
+
     /// How many entries there are.
     pub fn len(&self) -> usize
         ensures count { result ≡ length self.now }

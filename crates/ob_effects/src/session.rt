@@ -7,6 +7,9 @@ ghost use Rattle.ob_requests.specs.Tables.{variables_in};
 ghost use Rattle.ob_effects.specs.Effects.{FoundMemory, IsAnswered, IsLineWithoutMemory, IsUnanswered, IsRequestDone, IsDone, TakesNone};
 ghost use Rattle.ob_effects.specs.Kept.{IsFirst, IsSession, space_of, variables_of};
 ghost use Rattle.ob_effects.specs.Waiting.{Steps, GiveAllUp};
+ghost use Rattle.ob_standard.specs.Standard.{standard};
+ghost use Rattle.ob_survey.specs.Surveying.{survey_of};
+ghost use Rattle.ob_tree.specs.Index.{Rise};
 
 use crate::asking::{ask, begin_child};
 use crate::outcome::LineOutcome;
@@ -15,6 +18,7 @@ use ob_lines::{Change, Form, Request, change_of};
 use ob_model::Reply;
 use ob_requests::Variables;
 use ob_standard_core::{StandardCore, StandardWaits};
+use ob_tree::Survey;
 use std::alloc::{AllocError, Global};
 
 /// A script's session with a namespace over the standard set of types: the namespace, the variables of the script, and
@@ -69,6 +73,15 @@ impl Session {
                 self.carry_on(process, *pending)
             }
         }
+    }
+
+    /// What a tree shows of the namespace as it is, with the opens that are pending. The only error is out of memory. (this profile)
+    pub fn survey(&self, alloc: Global) -> Result<Survey, AllocError>
+        ensures seen { IfOk result (λ survey.
+            survey ≡ survey_of standard (space_of self.now)) }
+        ensures rise { IfOk result (λ survey. Rise survey.objects) }
+    {
+        self.core.survey(alloc)
     }
 
     /// Ends the session: all opens that wait are given up, by rising tickets, and their parses aren't run. (this

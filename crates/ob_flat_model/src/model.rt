@@ -4,6 +4,7 @@
 mod answers;
 mod lookup;
 mod pages;
+mod tree;
 
 use crate::asks::{Ask, Deed, EXCLUSIVE, FlatKind, INHERIT, PERMANENT, Waiting, is_wanted};
 use crate::names::{FlatName, FlatPath, joined, text};
@@ -66,12 +67,13 @@ impl Open {
     }
 }
 
-// A live process, the directory of its map, which is GLOBAL where it has no map, and the context that its last page
+// A live process, the directory of its map, which is GLOBAL where it has no map, whether it has one, and the context that its last page
 // gave, 0 before the first.
 #[derive(Clone, Copy)]
 struct Live {
     number: u32,
     map: u32,
+    is_mapped: bool,
     context: u64,
 }
 
@@ -140,6 +142,7 @@ impl Model {
         self.processes.push(Live {
             number: 1,
             map: GLOBAL,
+            is_mapped: false,
             context: 0,
         })?;
         Ok(())
@@ -408,7 +411,7 @@ impl Model {
                 Some(_) => self.last_stamp,
                 None => 0,
             },
-            is_permanent: spot.is_some() && attrs & PERMANENT != 0,
+            is_permanent: (spot.is_some() || number == ROOT) && attrs & PERMANENT != 0,
             is_exclusive: attrs & EXCLUSIVE != 0,
         };
         self.objects.push(object)?;
@@ -488,11 +491,11 @@ impl Model {
         Ok(same && values.next().is_none())
     }
 
-    // The object of a number is permanent, where it has a name, or temporary.
+    // The object of a number is permanent, where it has a name or was so before, or temporary.
     fn turn(&mut self, number: u32, permanent: bool) {
         for object in self.objects.iter_mut() {
             if object.number == number {
-                object.is_permanent = permanent && object.spot.is_some();
+                object.is_permanent = permanent && (object.spot.is_some() || object.is_permanent);
             }
         }
     }
@@ -501,6 +504,7 @@ impl Model {
     fn set(&mut self, process: u32, map: Option<u32>, context: Option<u64>) {
         for live in self.processes.iter_mut() {
             if live.number == process {
+                live.is_mapped = live.is_mapped || map.is_some();
                 live.map = map.unwrap_or(live.map);
                 live.context = context.unwrap_or(live.context);
             }

@@ -13,3 +13,4 @@ pub mod SlabTables
 pub mod Inside
 pub mod Foreign
 pub mod Later
+pub mod Cloned

@@ -1,6 +1,6 @@
 //! How often each object is counted.
 
-ghost use Rattle.std.specs.Prelude.{◌≡◌, ◌≤◌, ℕ, [], None, length, nat_eq, OnOk, OnErr};
+ghost use Rattle.std.specs.Prelude.{◌≡◌, ◌≤◌, ℕ, [], None, length, nat_eq, IfOk, OnOk, OnErr};
 ghost use Rattle.indexmap.specs.IndexMap.{IsUnique};
 ghost use Rattle.ob_model.specs.State.{greatest_number};
 ghost use Rattle.ob_handles.specs.Counts.{count_of, IsPlaceOf, CountsOneMore, CountsOneLess, CountsLessBy, CountsLessByAll};
@@ -49,6 +49,19 @@ impl Counts {
             zeros: 0,
             room: Vec::new(alloc),
         }
+    }
+
+    /// Other counts, of which the same are kept. It takes a time that grows with their number. The only error is out
+    /// of memory. (this profile)
+    pub fn copy(&self) -> Result<Counts, AllocError>
+        ensures { IfOk result (λ copy. copy ≡ self.now) }
+    {
+        Ok(Counts {
+            numbers: self.numbers.clone()?,
+            recent: self.recent,
+            zeros: self.zeros,
+            room: Vec::with_capacity(*self.room.allocator(), self.numbers.len())?,
+        })
     }
 
     /// Makes room at once for so many objects more of which a count is kept. The only error is want of

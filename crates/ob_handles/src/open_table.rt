@@ -57,6 +57,13 @@ impl HandleTable for OpenTable {
         }
     }
 
+    fn copy(&self) -> Result<OpenTable, AllocError> {
+        Ok(OpenTable {
+            by_order: self.by_order.clone()?,
+            by_value: self.by_value.clone()?,
+        })
+    }
+
     // An ordered map can't make room.
     fn reserve(&mut self, _more: usize) -> Result<(), AllocError> {
         Ok(())

@@ -85,6 +85,15 @@ impl HandleTable for SlabTable {
         }
     }
 
+    fn copy(&self) -> Result<SlabTable, AllocError> {
+        Ok(SlabTable {
+            rows: self.rows.clone()?,
+            foreign: self.foreign.clone()?,
+            opened: self.opened.clone()?,
+            searched: self.searched,
+        })
+    }
+
     fn reserve(&mut self, more: usize) -> Result<(), AllocError> {
         self.rows.reserve(more)?;
         self.opened.reserve(more)

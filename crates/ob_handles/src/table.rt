@@ -30,6 +30,11 @@ pub trait HandleTable: Sized + Drop + Send {
     fn new(alloc: Global) -> Self
         ensures { handles result ≡ [] };
 
+    /// Another table with the same handles. It takes a time that grows with their number. The only error is out of
+    /// memory. (this profile)
+    fn copy(&self) -> Result<Self, AllocError>
+        ensures { IfOk result (λ copy. handles copy ≡ handles self.now) };
+
     /// Makes room for so many handles more at once, as far as the table can; a table that can't make room
     /// does nothing. The only error is out of memory. The handles stay, whatever the result. (this profile)
     fn reserve(&mut self, more: usize) -> Result<(), AllocError>

@@ -1,9 +1,10 @@
 //! Chains of deletions, whose places are made ahead of their use.
 
-ghost use Rattle.std.specs.Prelude.{◌≡◌, ◌==◌, [], ◌∷◌, ◌++◌, ◌↔◌, IsTrue, IfSome, IfNone, length, reverse};
+ghost use Rattle.std.specs.Prelude.{◌≡◌, ◌==◌, [], ◌∷◌, ◌++◌, ◌↔◌, IsTrue, IfOk, IfSome, IfNone, length, reverse};
 ghost use Rattle.ob_host.specs.Chain.{items};
 
 use crate::HostDeletion;
+use std::alloc::AllocError;
 use std::mem;
 
 /// A chain of deletions, the one that was put in last first.
@@ -20,6 +21,20 @@ impl Chain {
         ensures { IsTrue result ↔ (items self.now ≡ []) }
     {
         matches!(self, Chain::End)
+    }
+
+    /// Another chain of the same deletions. The only error is out of memory.
+    pub(crate) fn copied(&self) -> Result<Chain, AllocError>
+        ensures { IfOk result (λ copy. items copy ≡ items self.now) }
+    {
+        let mut turned = Chain::End;
+        let mut rest = self;
+        while let Chain::More(deletion, place) = rest {
+            let alloc = *Box::allocator(place);
+            turned.push(deletion.copied(alloc)?, Box::new(alloc, Chain::End)?);
+            rest = place;
+        }
+        Ok(turned.reversed())
     }
 
     /// Puts a deletion in front. The place after it is where the deletions so far go; what was there is lost.

@@ -1,7 +1,10 @@
 //! What is known of an object that was deleted.
 
+ghost use Rattle.std.specs.Prelude.{◌≡◌, IfOk};
+
 use crate::Kind;
 use ob_model::Bytes;
+use std::alloc::{AllocError, Global};
 
 /// What a caller knows of an object of its own that was deleted. (this profile)
 #[derive(Debug, Drop)]
@@ -16,4 +19,19 @@ pub struct HostDeletion {
     pub serial: u64,
     /// Whether a parse made it.
     pub parsed: bool,
+}
+
+impl HostDeletion {
+    /// A copy. The only error is out of memory.
+    pub(crate) fn copied(&self, alloc: Global) -> Result<HostDeletion, AllocError>
+        ensures { IfOk result (λ copy. copy ≡ self.now) }
+    {
+        Ok(HostDeletion {
+            kind: self.kind,
+            user_data: self.user_data,
+            text: Bytes::from_slice(alloc, self.text.as_slice())?,
+            serial: self.serial,
+            parsed: self.parsed,
+        })
+    }
 }

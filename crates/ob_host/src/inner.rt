@@ -5,6 +5,7 @@ ghost use Rattle.ob_host.specs.Host.{deletion_of, one_more, unopened};
 
 use crate::chain::Chain;
 use crate::{HostDeletion, HostObject};
+use ob_types::Copied;
 use std::alloc::{AllocError, Global};
 use std::marker::Model;
 
@@ -120,5 +121,19 @@ impl HostInner {
             parsed,
         };
         (deletion, place)
+    }
+}
+
+/// A copy has a place of its own in the list of the deletions. (this profile)
+impl Copied for HostInner {
+    fn copied(&self) -> Result<HostInner, AllocError> {
+        let alloc = *Box::allocator(&self.place);
+        Ok(HostInner {
+            object: self.object.copied(alloc)?,
+            handles: self.handles,
+            serial: self.serial,
+            parsed: self.parsed,
+            place: Box::new(alloc, Chain::End)?,
+        })
     }
 }

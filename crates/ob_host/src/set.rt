@@ -14,7 +14,7 @@ use crate::args::{text_of, user_data_of};
 use crate::chain::Chain;
 use crate::{HostDeletion, HostInner, HostObject, Kind};
 use ob_model::Bytes;
-use ob_types::{Drains, ParseAnswer, Reason, Refusal, TypeSet};
+use ob_types::{Copied, Drains, ParseAnswer, Reason, Refusal, TypeSet};
 use std::alloc::{AllocError, Global};
 use std::marker::Model;
 use std::mem;
@@ -193,6 +193,17 @@ impl TypeSet for HostSet {
     ghost own_kind = { own_kind_is_same };
 
     ghost equal_kinds = { λ _ _. refl };
+}
+
+/// A copy keeps the same deletions, and draws the same serial next. (this profile)
+impl Copied for HostSet {
+    fn copied(&self) -> Result<HostSet, AllocError> {
+        Ok(HostSet {
+            older: self.older.copied()?,
+            newer: self.newer.copied()?,
+            last: self.last,
+        })
+    }
 }
 
 /// The next item is the first deletion that wasn't taken yet. (this profile)

@@ -23,7 +23,7 @@ pub fn run_replay<R: Read, W: Write>(
     reader: &mut R,
     writer: &mut W,
 ) -> Result<Verdict, ShellFault>
-    // What was written is the line of the verdict on the journal.
+    // The bytes that were written are the line of the verdict on the journal.
     ensures verdict { IfOk result (λ verdict. IfSome (R.remaining reader.old) (λ journal.
         WritesVerdict (W.contents writer.old) (W.contents writer.new) journal verdict)) }
 

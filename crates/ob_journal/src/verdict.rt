@@ -12,7 +12,7 @@ use ob_output::{ShellFault, write_out};
 use std::alloc::{AllocError, Global};
 use std::io::Write;
 
-/// What a check of a journal comes to. (this profile)
+/// The verdict of a check of a journal. (this profile)
 #[derive(Clone, Copy, PartialEq, Eq, Debug)]
 pub enum Verdict {
     /// The journal is that of a run.

@@ -1,5 +1,5 @@
 pub mod Verbs
-pub mod Formed
+pub mod LineForms
 pub mod Lined
 pub mod Scripted
 pub mod Misfitted

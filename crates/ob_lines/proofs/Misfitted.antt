@@ -12,7 +12,7 @@ use Rattle.ob_parts.specs.Parts.{BeginsWithProcess, IsFlagsAndVariable, IsFlagsT
 use Rattle.ob_parts.specs.Stops.{AreParts}
 use Rattle.ob_parts.proofs.Cuts.{lacks_no_cut}
 use Rattle.ob_parts.proofs.Flagged.{lacks_from_test}
-use Rattle.ob_parts.proofs.Parted.{moved, spaced, spaced_alike}
+use Rattle.ob_parts.proofs.Readings.{moved, spaced, spaced_alike}
 use Rattle.ob_lines.specs.declared.form.Form.{Form}
 use Rattle.ob_lines.specs.declared.form.Form.TheVariants.{Asks, Waits}
 use Rattle.ob_lines.specs.declared.pending.PendingForm.TheVariants.{Begin, End, Drop}
@@ -22,7 +22,7 @@ use Rattle.ob_lines.specs.declared.verb.Verb.{Verb}
 use Rattle.ob_lines.specs.declared.verb.Verb.TheVariants as verb
 use Rattle.ob_lines.specs.Grammar.{IsLine, IsOperands, longest_line, verb_of, verb_text}
 use Rattle.ob_lines.specs.Misfits.{HasSorts, IsCutAtSpace, Sorts, sorts_of}
-use Rattle.ob_lines.proofs.Formed.{request_joined}
+use Rattle.ob_lines.proofs.LineForms.{request_joined}
 use Rattle.ob_lines.proofs.Verbs.{verb_lacks}
 
 -- words that have sorts have no space

@@ -4,7 +4,7 @@ use Rattle.ob_lines.specs.declared.form.Form.{Form}
 use Rattle.ob_lines.specs.Lines.{lines_of}
 use Rattle.ob_lines.specs.Script.{Forms, HasForm, BeginsWithLine, BeginsWithForms, ScriptsHaveOneReading}
 use Rattle.ob_lines.specs.Grammar.{FormHasTexts}
-use Rattle.ob_lines.proofs.Formed.{line_alike, form_has_texts}
+use Rattle.ob_lines.proofs.LineForms.{line_alike, form_has_texts}
 
 -- one line more
 pub begins_more : (script rest behind : List ℕ) (done : Forms) (form : Option (Form (List ℕ))) → BeginsWithForms script done rest → BeginsWithLine rest form behind

@@ -8,7 +8,7 @@ use Rattle.ob_parts.specs.Text.{Lacks}
 use Rattle.ob_parts.specs.Parts.{BeginsWithProcess}
 use Rattle.ob_parts.specs.Stops.{StopsAt}
 use Rattle.ob_parts.proofs.Cuts.{lacks_no_cut}
-use Rattle.ob_parts.proofs.Parted.{differ, moved, spaced, spaced_alike}
+use Rattle.ob_parts.proofs.Readings.{differ, moved, spaced, spaced_alike}
 use Rattle.ob_parts.proofs.Processed.{process_alike}
 use Rattle.ob_parts.proofs.Stopped.{stops_alike}
 use Rattle.ob_lines.specs.declared.misfit.Expected.{Expected}

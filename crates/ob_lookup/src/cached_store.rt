@@ -31,7 +31,7 @@ use ob_model::Mode;
 use ob_names::{Name, NameBuf};
 use ob_objects::{EntryPlace, Named, Page, Standing, Store, StoredBody, StoredObject};
 use ob_prefixes::Cache;
-use ob_types::{Reason, TypeSet};
+use ob_types::{Copied, Reason, TypeSet};
 use std::alloc::{AllocError, Global};
 use std::marker::Model;
 
@@ -427,6 +427,26 @@ impl<T: TypeSet> CachedStore<T> {
             ≡ set_after_close T.procedures self.old set.old id process_left system_left }
     {
         self.store.close(id, set, process_left, system_left);
+    }
+}
+
+impl<T: TypeSet> CachedStore<T>
+where
+    T::Inner: Copied,
+{
+    /// Another store with the same objects under the same names, and the same list of names that were removed. Its cache
+    /// has the same room, and no prefix yet. It takes a time that grows with the objects and names. The only error is
+    /// out of memory. (this profile)
+    pub fn copy(&self, alloc: Global) -> Result<CachedStore<T>, AllocError>
+        ensures objects { IfOk result (λ copy. objects_of copy ≡ objects_of self.now) }
+        ensures rows { IfOk result (λ copy. rows_of copy ≡ rows_of self.now) }
+    {
+        Ok(CachedStore {
+            store: self.store.copy()?,
+            cache: self.cache.emptied(alloc)?,
+            names: self.names,
+            removed: self.removed.copy()?,
+        })
     }
 }
 

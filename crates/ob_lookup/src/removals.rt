@@ -1,7 +1,7 @@
 //! The names that were removed, for who keeps a copy of all names.
 
 use ob_base::ObjId;
-use std::alloc::Global;
+use std::alloc::{AllocError, Global};
 
 /// A name that was removed. (this profile)
 #[derive(Clone, Copy, Debug)]
@@ -30,6 +30,15 @@ impl Removals {
         Removals {
             listed: Some(Vec::new(alloc)),
         }
+    }
+
+    /// Another list of the same names, or none where there is none. The only error is out of memory.
+    pub(crate) fn copy(&self) -> Result<Removals, AllocError> {
+        let listed = match &self.listed {
+            Some(names) => Some(names.clone()?),
+            None => None,
+        };
+        Ok(Removals { listed })
     }
 
     /// Lists a name that was removed, where there is a list and memory.

@@ -128,6 +128,15 @@ impl NameBuf {
         })
     }
 
+    /// Another name with the same bytes. The only error is out of memory, which a name of up to 16 bytes doesn't take.
+    pub fn copy(&self) -> Result<NameBuf, AllocError>
+        ensures copied { IfOk result (λ copy. copy ≡ self.now) }
+    {
+        Ok(NameBuf {
+            bytes: self.bytes.clone()?,
+        })
+    }
+
     /// The name, as a slice that is known to be one.
     pub fn as_name(&self) -> Name<'_>
         ensures bytes { result ≡ self.now }

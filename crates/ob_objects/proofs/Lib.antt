@@ -17,3 +17,4 @@ pub mod KeptTypes
 pub mod KeptSlots
 pub mod KeptShadows
 mod Asked
+pub mod Copied

@@ -5,6 +5,7 @@ pub mod Store
 pub mod Standing
 pub mod Slots
 pub mod Types
+pub mod Copied
 pub mod Kept
 pub mod Changes
 pub mod Laws

@@ -1,13 +1,15 @@
 //! What is stored for one object.
 
-ghost use Rattle.std.specs.Prelude.{◌≡◌, []};
+ghost use Rattle.std.specs.Prelude.{◌≡◌, [], IfOk};
 ghost use Rattle.ob_model.specs.State.{shadow_in};
-ghost use Rattle.ob_objects.specs.Store.{body_of_stored};
+ghost use Rattle.ob_objects.specs.Copied.{shown};
+ghost use Rattle.ob_objects.specs.Store.{body_of_stored, entries_in};
 
 use ob_base::ObjId;
 use ob_dirs::Dir;
 use ob_names::NameBuf;
-use std::alloc::Global;
+use ob_types::Copied;
+use std::alloc::{AllocError, Global};
 use std::sync::Arc;
 
 /// What a stored object is. `F` is the face and `I` the inner value of an object whose type belongs
@@ -53,6 +55,23 @@ impl<F, I> StoredBody<F, I> {
     }
 }
 
+impl<F: Drop, I: Copied> StoredBody<F, I> {
+    /// Another body that is the same, and has the face in common. The only error is out of memory.
+    fn copy(&self) -> Result<StoredBody<F, I>, AllocError>
+        ensures body { IfOk result (λ copy. body_of_stored copy ≡ body_of_stored self.now) }
+        ensures entries { IfOk result (λ copy. entries_in copy ≡ entries_in self.now) }
+    {
+        match self {
+            StoredBody::Directory(dir, shadow) => Ok(StoredBody::Directory(dir.copy()?, *shadow)),
+            StoredBody::Link(target) => Ok(StoredBody::Link(target.copy()?)),
+            StoredBody::Other { face, inner } => Ok(StoredBody::Other {
+                face: Arc::try_clone(face)?,
+                inner: inner.copied()?,
+            }),
+        }
+    }
+}
+
 /// One object as a store keeps it, under its id.
 ///
 /// Source: Windows Internals, Object Manager: object headers and bodies.
@@ -64,4 +83,17 @@ pub struct StoredObject<F, I> {
     pub exclusive: bool,
     /// What it is.
     pub body: StoredBody<F, I>,
+}
+
+impl<F: Drop, I: Copied> StoredObject<F, I> {
+    /// Another object that is the same, and has the face in common. The only error is out of memory.
+    pub(crate) fn copy(&self) -> Result<StoredObject<F, I>, AllocError>
+        ensures { IfOk result (λ copy. shown copy ≡ shown self.now) }
+    {
+        Ok(StoredObject {
+            permanent: self.permanent,
+            exclusive: self.exclusive,
+            body: self.body.copy()?,
+        })
+    }
 }

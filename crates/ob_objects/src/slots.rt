@@ -1,7 +1,7 @@
 //! Slots under ids: objects, and where the names for them are.
 
 ghost use Rattle.std.specs.Prelude.{◌≡◌, ◌==◌, ℕ, [], None, Some, IfErr, OnOk, OnErr};
-ghost use Rattle.std.specs.Prelude.{nat_eq, if◌then◌else◌, IsTrue};
+ghost use Rattle.std.specs.Prelude.{nat_eq, if◌then◌else◌, IfOk, IsTrue};
 ghost use Rattle.std.specs.BTreeMap.{is_at, insert_entry};
 ghost use Rattle.std.specs.Borrow.{sem};
 ghost use Rattle.std.specs.List.{list_any};
@@ -9,6 +9,7 @@ ghost use Rattle.std.specs.Map.{remove_entry};
 ghost use Rattle.std.specs.Option.{option_copied, option_copied_mut};
 ghost use Rattle.std.specs.Ordering.{nat_cmp};
 ghost use Rattle.indexmap.specs.IndexMap.{get};
+ghost use Rattle.ob_objects.specs.Copied.{ShowsTheSame};
 ghost use Rattle.ob_objects.specs.Slots.{objects_in, object_in, place_in, KeepPlaces};
 ghost use Rattle.ob_objects.specs.Slots.{AreFilled, StayFilled, LendsObject, LendsSlot, IsPlaceOf};
 ghost use Rattle.ob_objects.specs.Store.{entries_in};
@@ -16,6 +17,7 @@ ghost use Rattle.ob_objects.specs.Store.{entries_in};
 use crate::{EntryPlace, StoredBody, StoredObject};
 use indexmap::IndexMap;
 use ob_base::ObjId;
+use ob_types::Copied;
 use std::alloc::{AllocError, Global};
 
 /// A slot under an id: the object, where one is there, and where the name for it is, where there is one.
@@ -23,6 +25,25 @@ use std::alloc::{AllocError, Global};
 pub(crate) struct Slot<F, I> {
     object: Option<StoredObject<F, I>>,
     place: Option<EntryPlace>,
+}
+
+/// A clone shows the same, and has the face of its object in common.
+impl<F: Drop, I: Copied> Clone for Slot<F, I> {
+    ghost use Rattle.std.specs.Prelude.{◌≡◌};
+    ghost use Rattle.ob_objects.specs.Copied.{shown_slot};
+
+    ghost is_clone = { λ slot copy. shown_slot copy ≡ shown_slot slot };
+
+    fn clone(&self) -> Result<Slot<F, I>, AllocError> {
+        let object = match &self.object {
+            Some(object) => Some(object.copy()?),
+            None => None,
+        };
+        Ok(Slot {
+            object,
+            place: self.place,
+        })
+    }
 }
 
 /// Slots by their ids. Each is found in a time that doesn't grow with their number, and one that was changed of late
@@ -225,6 +246,21 @@ impl<F: Drop, I: Drop> Slots<F, I> {
         for entry in dir.iter() {
             self.forget_place(entry.object);
         }
+    }
+}
+
+impl<F: Drop, I: Copied> Slots<F, I> {
+    /// Other slots with the same objects and places, which have the faces in common. The only error is out of memory.
+    pub(crate) fn copy(&self) -> Result<Slots<F, I>, AllocError>
+        ensures objects { IfOk result (λ copy.
+            ShowsTheSame (objects_in self.now) (objects_in copy)) }
+        ensures places { IfOk result (λ copy. KeepPlaces self.now copy) }
+        ensures filled { IfOk result (λ copy. StayFilled self.now copy) }
+    {
+        Ok(Slots {
+            map: self.map.clone()?,
+            guesses: self.guesses,
+        })
     }
 }
 

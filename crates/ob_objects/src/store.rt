@@ -28,7 +28,7 @@ use crate::{EntryPlace, Named, Standing, StoredObject, changes, named, shadows, 
 use ob_base::ObjId;
 use ob_handles::Counts;
 use ob_names::NameBuf;
-use ob_types::{Reason, TypeSet};
+use ob_types::{Copied, Reason, TypeSet};
 use std::alloc::{AllocError, Global};
 use std::collections::BTreeMap;
 use std::marker::Model;
@@ -65,6 +65,24 @@ impl<T: TypeSet> Model for Store<T> {
 
     ghost invariant = { λ store. Keeps T.procedures store.slots store.types.entries
         × CountsShadows store.types.entries store.shadows };
+}
+
+impl<T: TypeSet> Store<T>
+where
+    T::Inner: Copied,
+{
+    /// Another store with the same objects under the same names. It takes a time that grows with both. The only error
+    /// is out of memory. (this profile)
+    pub fn copy(&self) -> Result<Store<T>, AllocError>
+        ensures objects { IfOk result (λ copy. objects_of copy ≡ objects_of self.now) }
+        ensures rows { IfOk result (λ copy. rows_of copy ≡ rows_of self.now) }
+    {
+        Ok(Store {
+            slots: self.slots.copy()?,
+            types: self.types.clone()?,
+            shadows: self.shadows.copy()?,
+        })
+    }
 }
 
 impl<T: TypeSet> Store<T> {

@@ -6,11 +6,12 @@ ghost use Rattle.ob_objects.specs.Types.{type_of_body, name_of_type};
 use crate::StoredBody;
 use ob_base::ObjId;
 use ob_types::TypeSet;
+use std::alloc::AllocError;
 
 /// Which type an object is of: one of the namespace's own, or the type of a kind of the set.
 ///
 /// Source: Windows Internals, Object Manager: object types, and the type index of an object header.
-#[derive(Clone, Copy)]
+#[derive(Copy)]
 pub(crate) enum StoredType<K> {
     /// An object directory, with its shadow, if it has one.
     Directory(Option<ObjId>),
@@ -18,6 +19,15 @@ pub(crate) enum StoredType<K> {
     Link,
     /// An object of this kind.
     Other(K),
+}
+
+/// By hand, since a derived one says of a kind no more than that it is a clone.
+impl<K: Copy> Clone for StoredType<K> {
+    ghost is_clone = { λ of copy. copy ≡ of };
+
+    fn clone(&self) -> Result<StoredType<K>, AllocError> {
+        Ok(*self)
+    }
 }
 
 /// The type of what a body is. No change of an object changes it.

@@ -16,7 +16,7 @@ use Rattle.ob_parts.specs.Text.{Lacks}
 use Rattle.ob_parts.specs.Pages.{IsRoom, mode_text}
 use Rattle.ob_parts.specs.Parts.{BeginsWithRoom}
 use Rattle.ob_parts.proofs.Cuts.{lacks_no_cut}
-use Rattle.ob_parts.proofs.Parted.{differ, moved, spaced, spaced_alike}
+use Rattle.ob_parts.proofs.Readings.{differ, moved, spaced, spaced_alike}
 
 -- digits have no space, so a room has none
 digits_lack : (cs : List ℕ) → AllDigits 10 cs → Lacks 0x20 cs

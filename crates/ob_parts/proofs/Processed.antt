@@ -6,7 +6,7 @@ use Rattle.ob_parts.specs.Parts.{IsHandle, BeginsWithHandle, BeginsWithProcess, 
 use Rattle.ob_parts.proofs.Cuts.{lacks_no_cut}
 use Rattle.ob_parts.proofs.Spelled.{variable_lacks}
 use Rattle.ob_parts.proofs.Handles.{handle_lacks, handle_alike}
-use Rattle.ob_parts.proofs.Parted.{apart, moved, spaced, spaced_alike}
+use Rattle.ob_parts.proofs.Readings.{apart, moved, spaced, spaced_alike}
 
 -- bytes that are cut at their first space begin with no other handle
 pub handle_parts : (bytes spelled rest : List ℕ) (h : HandleForm (List ℕ)) (r : List ℕ) → bytes ≡ spelled ++ (0x20 ∷ rest) → Lacks 0x20 spelled

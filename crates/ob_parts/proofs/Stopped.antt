@@ -10,7 +10,7 @@ use Rattle.ob_parts.specs.declared.sort.LastForm.TheVariants as last
 use Rattle.ob_parts.specs.Parts.{IsHandle, handle_seen}
 use Rattle.ob_parts.specs.Stops.{BeginsWithPart, BeginsWithParts, IsLastPart, LacksFirst, StopsAt}
 use Rattle.ob_parts.proofs.Paged.{room_alike}
-use Rattle.ob_parts.proofs.Parted.{flags_first_alike, kind_alike, name_alike, place_alike, text_alike, want_alike}
+use Rattle.ob_parts.proofs.Readings.{flags_first_alike, kind_alike, name_alike, place_alike, text_alike, want_alike}
 use Rattle.ob_parts.proofs.Processed.{handle_first_alike, inherit_alike, process_alike}
 
 -- bytes that go on after a part as far as a stop stop there

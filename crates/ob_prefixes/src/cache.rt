@@ -60,6 +60,13 @@ impl Cache {
         })
     }
 
+    /// A cache of no prefix, with the same room, and with no hit. The only error is out of memory. (this profile)
+    pub fn emptied(&self, alloc: Global) -> Result<Cache, AllocError>
+        ensures { IfOk result (λ cache. cache ≡ kept self.now.room [] 0) }
+    {
+        Cache::with_room(alloc, self.prefixes.cap())
+    }
+
     /// How often a prefix that was asked for was there: a count from 0, which stops at 2^64 - 1. (this profile)
     pub fn hits(&self) -> u64
         ensures { result ≡ self.now.hits }

@@ -10,3 +10,4 @@ pub mod Kept
 pub mod Mapped
 pub mod Leaving
 pub mod Pinned
+pub mod Copies

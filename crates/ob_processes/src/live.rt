@@ -38,6 +38,18 @@ impl<H: HandleTable> Model for Live<H> {
     ghost invariant = { λ live. IsCounted (H.handles live.table) live.counts };
 }
 
+/// A clone has the same handles.
+impl<H: HandleTable> Clone for Live<H> {
+    ghost is_clone = { λ live copy. copy ≡ live };
+
+    fn clone(&self) -> Result<Live<H>, AllocError> {
+        Ok(Live {
+            table: self.table.copy()?,
+            counts: self.counts.copy()?,
+        })
+    }
+}
+
 impl<H: HandleTable> Live<H> {
     /// A process without a handle. Takes no memory.
     pub(crate) fn new(alloc: Global) -> Live<H>
@@ -67,7 +79,8 @@ impl<H: HandleTable> Live<H> {
 
     /// Its handle of a value, where it has one.
     pub(crate) fn get(&self, value: Handle) -> Option<Held>
-        ensures { result ≡ find (λ h. h.value == value) self.now }
+        ensures there { result ≡ find (λ h. h.value == value) self.now }
+        ensures value { IfSome result (λ h. IsHandleValue h.value) }
     {
         self.table.get(value)
     }

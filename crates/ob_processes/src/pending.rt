@@ -1,7 +1,7 @@
 //! The opens that are pending.
 
 ghost use Rattle.std.specs.Prelude.{◌≡◌, ◌<◌, ◌≤◌, ◌==◌, not, [], ◌∷◌, ◌++◌};
-ghost use Rattle.std.specs.Prelude.{length, filter, All, AllPairs, OnOk, OnErr};
+ghost use Rattle.std.specs.Prelude.{length, filter, All, AllPairs, IfOk, OnOk, OnErr};
 ghost use Rattle.std.specs.List.{find, list_any};
 ghost use Rattle.std.specs.Option.{option_copied};
 ghost use Rattle.ob_model.specs.State.{greatest_number};
@@ -9,7 +9,7 @@ ghost use Rattle.ob_processes.specs.Pending.{pins_of};
 
 use ob_base::ObjId;
 use ob_handles::Counts;
-use ob_model::PendingOpen;
+use ob_model::{Bytes, PendingOpen};
 use std::alloc::{AllocError, Global};
 use std::collections::BTreeMap;
 use std::marker::Model;
@@ -121,4 +121,49 @@ impl<K: Drop> PendingOpens<K> {
         self.pins.lower(pending.object);
         Some(pending)
     }
+}
+
+impl<K: Copy> PendingOpens<K> {
+    /// Other pending opens, the same under the same tickets. It takes a time that grows with their number. The only error
+    /// is out of memory. (this profile)
+    pub fn copy(&self, alloc: Global) -> Result<PendingOpens<K>, AllocError>
+        ensures { IfOk result (λ copy. copy ≡ self.now) }
+    {
+        Ok(PendingOpens {
+            opens: copied_opens(alloc, &self.opens)?,
+            pins: self.pins.copy()?,
+        })
+    }
+}
+
+// The same opens under the same tickets.
+fn copied_opens<K: Copy>(
+    alloc: Global,
+    opens: &BTreeMap<u64, PendingOpen<K>>,
+) -> Result<BTreeMap<u64, PendingOpen<K>>, AllocError>
+    ensures { IfOk result (λ copy. copy.entries ≡ opens.now.entries) }
+{
+    let mut copy = BTreeMap::new(alloc);
+    for (ticket, pending) in opens.iter() {
+        copy.insert(*ticket, copied_open(alloc, pending)?)?;
+    }
+    Ok(copy)
+}
+
+// The same open.
+fn copied_open<K: Copy>(
+    alloc: Global,
+    pending: &PendingOpen<K>,
+) -> Result<PendingOpen<K>, AllocError>
+    ensures { IfOk result (λ copy. copy ≡ pending.now) }
+{
+    Ok(PendingOpen {
+        ticket: pending.ticket,
+        process: pending.process,
+        object: pending.object,
+        rest: Bytes::from_slice(alloc, pending.rest.as_slice())?,
+        left: pending.left,
+        attrs: pending.attrs,
+        wanted: pending.wanted,
+    })
 }

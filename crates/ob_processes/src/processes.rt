@@ -69,6 +69,20 @@ impl<H: HandleTable> Processes<H> {
         }
     }
 
+    /// The same processes with the same device maps and handles. It takes a time that grows with all of these. The only
+    /// error is out of memory. (this profile)
+    pub fn copy(&self) -> Result<Processes<H>, AllocError>
+        ensures { IfOk result (λ copy. copy ≡ self.now) }
+    {
+        Ok(Processes {
+            alloc: self.alloc,
+            live: self.live.clone()?,
+            maps: self.maps.copy()?,
+            total: self.total,
+            counts: self.counts.copy()?,
+        })
+    }
+
     /// A process begins, with a device map or without one, and without a handle. Its number must be
     /// above those of all that are live. Where memory runs out nothing has changed.
     pub fn start(&mut self, process: Proc, map: Option<ObjId>) -> Result<(), AllocError>
@@ -221,7 +235,8 @@ impl<H: HandleTable> Processes<H> {
     /// The handle of a process of a value, and `None` exactly where it has none. Takes no memory.
     #[inline(always)]
     pub fn get(&self, process: Proc, value: Handle) -> Option<Held>
-        ensures { result ≡ find (is_handle process value) self.now.handles }
+        ensures there { result ≡ find (is_handle process value) self.now.handles }
+        ensures value { IfSome result (λ h. IsHandleValue h.value) }
     {
         self.live.get(&process.0)?.get(value)
     }

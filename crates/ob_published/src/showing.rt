@@ -215,8 +215,9 @@ fn append_changes<J: Naming>(
     Ok(())
 }
 
-// Asks the copy for the changes that are left, and for what they lead to, and shows readers all of it; where memory runs
-// out, readers see what they saw, and what is asked for and left leads to the same rows.
+// Hands the changes that are left, and the number that they reach, to the copy, and shows readers all of them. If memory
+// runs out, readers see the same rows as before, and the steps handed over and the changes left still lead to the same
+// rows.
 fn show_left<J: Naming, R: Wait>(
     writer: &mut Writer<Shown, Op, (), Of<J>>,
     left: &mut VecDeque<RowChange>,

@@ -14,10 +14,15 @@ use ob_flat_model::{Ask, Deed, FlatKind, FlatName, FlatPath, Model, text};
 use ob_plain::PlainKind;
 use ob_runner::{Begun, Waits, begin_open, drop_open, end_open, give_all_up};
 use ob_standard::{Standard, StandardKind};
+use ob_survey::survey;
+use ob_tree::{Style, tree_text};
 use ob_types::TypeSet;
 use std::alloc::{AllocError, Global};
 use std::mem;
 use std::num::NonZeroUsize;
+
+// After how many turns the tree is drawn again.
+const DRAWN: u32 = 50;
 
 /// A set of types over which games are played, and whose calls are counted.
 pub(crate) trait Played: TypeSet {
@@ -332,6 +337,16 @@ fn is_counted<S: Played, H: HandleTable>(core: &Core<S, H>, model: &Model, proce
     counts == model.counts(process) && core.set().calls() == model.calls()
 }
 
+// Whether the tree of a namespace is that of the model.
+fn is_drawn<S: Played, H: HandleTable>(
+    core: &Core<S, H>,
+    model: &Model,
+) -> Result<bool, AllocError> {
+    let seen = survey(model.alloc(), core)?;
+    let tree = tree_text(model.alloc(), &seen, Style::Ascii)?;
+    Ok(tree.as_slice() == model.tree()?.as_slice())
+}
+
 // How many of so many turns end as the model says, up to the first that doesn't.
 fn play<S: Played, H: HandleTable>(
     core: &mut Core<S, H>,
@@ -350,6 +365,9 @@ fn play<S: Played, H: HandleTable>(
         let turn = game.turn(dice, model, done);
         let is_agreed = is_agreed(core, waits, tickets, model, turn)?;
         if !is_agreed || !is_counted(core, model, done % 12) {
+            return Ok(done);
+        }
+        if done % DRAWN == 0 && !is_drawn(core, model)? {
             return Ok(done);
         }
     }

@@ -4,11 +4,14 @@ ghost use Rattle.std.specs.Prelude.{◌≡◌, ◌<◌, ◌==◌, not, true, [],
 ghost use Rattle.std.specs.Prelude.{filter, map, All, AllPairs, IfErr, IfNone, IfSome, OnErr, OnOk};
 ghost use Rattle.std.specs.List.{find, list_any};
 ghost use Rattle.std.specs.Option.{option_copied};
+ghost use Rattle.std.specs.Map.Iter.{ShowsInOrder, deref};
+ghost use Rattle.ob_types.specs.Parse.{ToRun};
 ghost use Rattle.ob_runner.specs.Begun.{tickets_of, without};
 
 use ob_types::{Parsing, TypeSet};
 use std::alloc::Global;
 use std::collections::BTreeMap;
+use std::collections::btree_map::Values;
 use std::marker::Model;
 
 /// The parses that opens wait for, each under the ticket of its open. A contract sees them as the list of these parses, by
@@ -60,9 +63,17 @@ impl<T: TypeSet> Waits<T> {
         self.parses.get(&ticket)
     }
 
+    /// The parses, by rising tickets. (this profile)
+    pub fn iter(&self) -> Values<'_, u64, Parsing<T>>
+        ensures parses { result ≡ self.now }
+        ensures runs { ShowsInOrder (deref {X = ToRun T.Face}) }
+    {
+        self.parses.values()
+    }
+
     /// Keeps a parse, whose ticket must be above those of all that are kept. Where memory runs out the parse is handed
-    /// back, and nothing has changed.
-    pub(crate) fn keep(&mut self, parsing: Parsing<T>) -> Result<(), Parsing<T>>
+    /// back, and nothing has changed. (this profile)
+    pub fn keep(&mut self, parsing: Parsing<T>) -> Result<(), Parsing<T>>
         requires newest { All (λ k. k < parsing.ticket) (tickets_of self.old) }
         ensures last { OnOk result (self.new ≡ self.old ++ parsing ∷ []) }
         ensures unchanged { OnErr result (self.new ≡ self.old) }

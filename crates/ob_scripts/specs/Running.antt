@@ -40,7 +40,7 @@ GathersRun old new script has end =
     (output : List ℕ) × Plays script output end × PlaysFirst script output end × Gathers old new [] output has
 
 -- what a writer holds after a fault of a run of the script: a beginning of what it plays after a fault of
--- the writer, and no more than before after a lack of memory; no other fault comes
+-- the writer, and no more than before if out of memory; no other fault comes
 abbrev pub StopsPlaying : List ℕ → ShellFault → Option (List ℕ) → Option (List ℕ) → Type 0
 StopsPlaying script (fault.Write unwritten) old new = PlaysPartTo old new script
 StopsPlaying script fault.Memory old new = new ≡ old

@@ -1,4 +1,4 @@
--- What a script shows: the run that it asks for, and the text that it prints.
+-- The run that a script asks for, and the text that it prints.
 --
 -- Source: this profile.
 use Rattle.std.specs.Prelude.{◌≡◌, ◌≢◌, ℕ, ◌+◌, ◌⊎◌, List, [], ◌∷◌, ◌++◌, map, Option, Some, None, codes}
@@ -33,8 +33,8 @@ abbrev pub EndsWanting : ℕ → Variables → Space → Steps → List ℕ → 
 EndsWanting number variables t behind output end =
     (output ≡ output_line number (codes "want of memory")) × (end ≡ ending.NoMemoryAt number) × GiveAllUp variables t behind
 
--- What the line of this number shows where a process asks for something in it, before what `Rest` shows: it takes the
--- run's next steps, those that run its command to its reply from the state, prints the reply and goes on from the state
+-- The line of this number, where a process asks for something in it, shows this before what `Rest` shows: it takes the
+-- run's next steps, those that run its command to its reply from the state, prints the reply and continues from the state
 -- that they leave; or it finds no memory.
 abbrev pub ShowsRequest : ℕ → ℕ → Request (List ℕ) → Variables → Space → Steps → List ℕ → Ending → (Variables → Space → Steps → List ℕ → Type 0) → Type 0
 ShowsRequest number p request variables s steps output end Rest =
@@ -45,7 +45,7 @@ ShowsRequest number p request variables s steps output end Rest =
     ⊎ ((own : Steps) × (behind : Steps) × (t : Space) × WantsMemory request p variables own s t × (steps ≡ own ++ behind)
     × EndsWanting number variables t behind output end)
 
--- What it shows for an open of a process that waits: it reports why it makes no step, and goes on; or it makes
+-- The same for an open of a process that waits: it reports why it makes no step, and continues; or it makes
 -- one, prints its answer and continues after it; or it finds no memory.
 abbrev pub ShowsWait : ℕ → ℕ → PendingForm (List ℕ) → Variables → Space → Steps → List ℕ → Ending → (Variables → Space → Steps → List ℕ → Type 0) → Type 0
 ShowsWait number p pending variables s steps output end Rest =
@@ -59,9 +59,9 @@ ShowsWait number p pending variables s steps output end Rest =
     × (told_instead pending (is_waiting variables p (variable_of pending)) ≡ None) × FindsNone pending variables p own s t variables' × (steps ≡ own ++ behind)
     × EndsWanting number variables' t behind output end)
 
--- What the line of this number shows where it is of this form, before what `Rest` shows for the
+-- The line of this number, where it is of this form, shows this before what `Rest` shows for the
 -- variables, the state, the steps and the output that are left. A line that does nothing shows nothing.
--- A `stat` prints what the state counts and goes on. Of a process, it shows what it asks for, or what becomes of an open
+-- A `stat` prints the counts of the state and continues. A line of a process shows its request, or the progress of an open
 -- that waits.
 abbrev pub ShowsForm : ℕ → Form (List ℕ) → Variables → Space → Steps → List ℕ → Ending → (Variables → Space → Steps → List ℕ → Type 0) → Type 0
 ShowsForm number Nothing variables s steps output end Rest = Rest variables s steps output
@@ -100,8 +100,8 @@ PlaysFormsBy forms steps output end =
 abbrev pub PlaysForms : Forms → List ℕ → Ending → Type 0
 PlaysForms forms output end = (steps : Steps) × PlaysFormsBy forms steps output end
 
--- A script plays so: its lines from the first on, as far as the run goes, do. A run that is done went
--- through them all.
+-- A script plays so: its lines from the first on, up to the end of the run, do. A run that is done has
+-- played them all.
 abbrev pub PlaysBy : List ℕ → Steps → List ℕ → Ending → Type 0
 PlaysBy script steps output end =
     (forms : Forms) × (rest : List ℕ) × BeginsWithForms script forms rest × (end ≡ ending.Done → rest ≡ []) × PlaysFormsBy forms steps output end
@@ -109,21 +109,21 @@ PlaysBy script steps output end =
 abbrev pub Plays : List ℕ → List ℕ → Ending → Type 0
 Plays script output end = (steps : Steps) × PlaysBy script steps output end
 
--- an ending other than one for a lack of memory
+-- an ending other than one out of memory
 abbrev pub FindsMemory : Ending → Type 0
 FindsMemory ending.Done = Unit {0}
 FindsMemory (ending.BadLine number) = Unit {0}
 FindsMemory (ending.NoMemoryAt number) = ⊥
 
 -- Lines of all these forms play what the first of them do, which play this output and end so. Where one
--- of those ended the run, all play the same; else all play some output after it, and want no memory.
+-- of those ended the run, all play the same; else all play some output after it, and find memory.
 abbrev pub PlaysOn : Forms → List ℕ → Ending → Type 0
 PlaysOn all output ending.Done = (more : List ℕ) × (end : Ending) × FindsMemory end × PlaysForms all (output ++ more) end
 PlaysOn all output (ending.BadLine number) = PlaysForms all output (ending.BadLine number)
 PlaysOn all output (ending.NoMemoryAt number) = PlaysForms all output (ending.NoMemoryAt number)
 
 -- Lines of the script, from its first on, play this output and end so, and the whole script plays that or
--- goes on from there, by each reading of it. There is one reading of every script, and no other:
+-- continues from there, by each reading of it. There is one reading of every script, and no other:
 -- `every_script_has_a_reading` and `scripts_have_one_reading` of `ob_lines` say so.
 abbrev pub PlaysFirst : List ℕ → List ℕ → Ending → Type 0
 PlaysFirst script output end =
@@ -131,7 +131,7 @@ PlaysFirst script output end =
     × ((all : Forms) → BeginsWithForms script all [] → PlaysOn all output end)
 
 -- what lines of the script from its first on play has this beginning, and continues after it; and the whole
--- script plays that or goes on from there
+-- script plays that or continues from there
 abbrev pub PlaysPart : List ℕ → List ℕ → Type 0
 PlaysPart script front = (back : List ℕ) × (end : Ending) × (back ≢ []) × PlaysFirst script (front ++ back) end
 

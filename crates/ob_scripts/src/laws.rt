@@ -1,4 +1,4 @@
-//! What holds of the runs of scripts, and of their variables.
+//! Laws of the runs of scripts, and of their variables.
 
 ghost use Rattle.ob_scripts.specs.Alike.{FormsShowTheSame, ScriptsShowTheSame};
 ghost use Rattle.ob_scripts.specs.Offsets.{OffsetsAreAddedInFull};

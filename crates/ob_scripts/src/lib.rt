@@ -8,4 +8,4 @@ mod run;
 
 pub use laws::{offsets_are_added_in_full, shown_law};
 pub use printing::write_outcome;
-pub use run::{Ending, perform_line, run_script};
+pub use run::{Ending, ending_of, perform_line, run_script};

@@ -49,12 +49,12 @@ pub fn run_script<R: Read, W: Write>(
     reader: &mut R,
     writer: &mut W,
 ) -> Result<Ending, ShellFault>
-    // What was written is what the script plays.
+    // The bytes that were written are those that the script plays.
     ensures played { IfOk result (λ ending. IfSome (R.remaining reader.old) (λ script.
         PlaysTo (W.contents writer.old) (W.contents writer.new) script ending)) }
 
     // After a fault of the writer: a beginning of what lines of the script from its first on play, and not all
-    // of it; and where the whole script is run, it plays that and goes on from there, or has ended there.
+    // of it; and where the whole script is run, it plays that and continues from there, or has ended there.
     ensures part { (unwritten : _) → IsErrOf result (ShellFault.Write unwritten) →
         IfSome (R.remaining reader.old) (λ script.
         PlaysPartTo (W.contents writer.old) (W.contents writer.new) script) }
@@ -206,8 +206,8 @@ fn show<W: Write>(
     Ok(ending_of(number, &outcome))
 }
 
-// How what became of a line ends the run, where it does.
-fn ending_of(number: u64, outcome: &LineOutcome) -> Option<Ending>
+/// How the outcome of the line of this number ends a run, where it does. (this profile)
+pub fn ending_of(number: u64, outcome: &LineOutcome) -> Option<Ending>
     ensures { result ≡ outcome_end number outcome.now }
 {
     match outcome {

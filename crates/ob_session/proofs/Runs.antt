@@ -1,5 +1,5 @@
 -- What lines of a session do is a run, whatever becomes of each.
-use Rattle.std.proofs.Common.{◌≡◌, ℕ, ◌+◌, List, [], ◌∷◌, ◌++◌, Option, Some, None, refl, subst}
+use Rattle.std.proofs.Common.{◌≡◌, ℕ, ◌+◌, List, [], ◌∷◌, ◌++◌, Bool, true, false, Option, Some, None, refl, subst}
 use Rattle.ob_model.specs.declared.reply.Answer.TheVariants.{Done, Ticket}
 use Rattle.ob_model.specs.declared.reply.Event.TheVariants.{Start}
 use Rattle.ob_model.specs.Opening.{opening}
@@ -17,7 +17,7 @@ use Rattle.ob_effects.specs.Waiting.{Steps}
 use Rattle.ob_scripts.specs.Shown.{Entries, AreOfSeat0}
 use Rattle.ob_scripts.proofs.Finals.{wanting_run, stopped_run}
 use Rattle.ob_scripts.proofs.Totals.{entered_seat}
-use Rattle.ob_session.specs.Session.{AreAnswered, SessionsAreRuns}
+use Rattle.ob_session.specs.Session.{AreAnswered, IsAnsweredAs, SessionsAreRuns, is_tree}
 
 -- the steps of a line, after which a run goes on
 abbrev Extends : Space → Space → Type 0
@@ -53,12 +53,17 @@ extends (Some (Waits process line)) variables variables' s s' outcome.NoLine d =
 extends (Some (Waits process line)) variables variables' s s' outcome.NoMemory (makes, (own, wants)) =
     (own, λ count entries t run. stopped_run s s' variables variables' (variables.processes process) line own count wants entries t run)
 
+-- the same of `tree`, which makes no step
+extends_as : (tree : Bool) (number : ℕ) (line : List ℕ) (variables variables' : Variables) (s s' : Space) (text : List ℕ) → IsAnsweredAs tree number line variables s text variables' s' → Extends s s'
+extends_as true number line variables variables' s s' text (is, w, same) = stays s s' same
+extends_as false number line variables variables' s s' text one = extends one.form variables variables' s s' one.outcome one.done
+
 -- lines, after so many entries
 extends_all : (lines : List (List ℕ)) (number : ℕ) (variables variables' : Variables) (s s' : Space) (output : List ℕ) (count : ℕ) → AreAnswered number lines variables s output variables' s'
     → (entries : Entries) × RunFrom standard s count entries s' × AreOfSeat0 entries
 extends_all [] number variables variables' s s' output count (none, w, same) = ([], same, tt)
 extends_all (line ∷ lines) number variables variables' s s' output count (text, rest, w, t, one, out, more) =
-    let first = extends one.form variables w s t one.outcome one.done in
+    let first = extends_as (is_tree line) number line variables w s t text one in
     let then = extends_all lines (number + 1) w variables' t s' rest (count_behind count first.0) more in
     (entered count first.0 ++ then.0, first.1 count then.0 s' then.1, entered_seat count first.0 then.0 then.2)
 

@@ -1,11 +1,16 @@
--- A session: its lines are performed one after another, and each is answered by a line of output, or by none, before the next one is taken.
+-- A session: its lines are performed one after another, and each is answered, by a line of output, by none, or by the lines of a tree, before the next one
+-- is taken.
 --
 -- Source: this profile.
-use Rattle.std.specs.Prelude.{◌≡◌, ◌⊎◌, ℕ, ◌+◌, ◌-◌, ◌^◌, Bool, true, false, List, [], ◌∷◌, ◌++◌, length, Option, Some, None, IfSome}
+use Rattle.std.specs.Prelude.{◌≡◌, ◌⊎◌, ℕ, ◌+◌, ◌-◌, ◌^◌, Bool, true, false, List, [], ◌∷◌, ◌++◌, length, Option, IfSome, codes}
 use Rattle.std.specs.Io.KnownBytes.{Appends, Keeps}
+use Rattle.std.specs.Str.{bytes_eq}
 use Rattle.ob_model.specs.Opening.{opening}
 use Rattle.ob_model.specs.Run.{Run}
 use Rattle.ob_standard.specs.Standard.{Standard, standard, IsFresh}
+use Rattle.ob_survey.specs.Surveying.{survey_of}
+use Rattle.ob_tree.specs.Tree.{tree_of}
+use Rattle.ob_tree.specs.declared.style.Style.TheVariants.{Boxes}
 use Rattle.ob_lines.specs.declared.form.Form.{Form}
 use Rattle.ob_lines.specs.declared.misfit.Misfit.{Misfit}
 use Rattle.ob_lines.specs.Lines.{lines_of}
@@ -35,13 +40,29 @@ IsAnswer number line (outcome.Told notice) text = text ≡ outcome_text number (
 IsAnswer number line outcome.NoLine text = (misfit : Misfit) × IsMisfit line misfit × (text ≡ output_line number (misfit_text misfit))
 IsAnswer number line outcome.NoMemory text = text ≡ outcome_text number outcome.NoMemory
 
--- the line of this number is performed with these variables and in this state, and answered by this text
-pub record IsAnswered (number : ℕ) (line : List ℕ) (variables : Variables) (s : Space) (text : List ℕ) (variables' : Variables) (s' : Space) : Type 0 where
+-- a line of a script, of this number, is performed with these variables and in this state, and answered by this text
+pub record IsPerformed (number : ℕ) (line : List ℕ) (variables : Variables) (s : Space) (text : List ℕ) (variables' : Variables) (s' : Space) : Type 0 where
   pub form : Option (Form (List ℕ))
   pub formed : HasForm line form
   pub outcome : LineOutcome
   pub done : IsDone form variables s outcome variables' s'
   pub told : IsAnswer number line outcome text
+
+-- the line `tree`, which is one of sessions alone
+abbrev pub is_tree : List ℕ → Bool
+is_tree line = bytes_eq line (codes "tree")
+
+-- the answer to it: the tree of the state; or, where it found no memory, the line that says so
+abbrev pub IsTreeOf : ℕ → Space → List ℕ → Type 0
+IsTreeOf number s text = (text ≡ tree_of Boxes (survey_of standard s)) ⊎ (text ≡ outcome_text number outcome.NoMemory)
+
+-- the line of this number is answered by this text: `tree`, which changes nothing; or a line of a script, which is performed
+abbrev pub IsAnsweredAs : (tree : Bool) → ℕ → List ℕ → Variables → Space → List ℕ → Variables → Space → Type 0
+IsAnsweredAs true number line variables s text variables' s' = IsTreeOf number s text × (variables' ≡ variables) × (s' ≡ s)
+IsAnsweredAs false number line variables s text variables' s' = IsPerformed number line variables s text variables' s'
+
+abbrev pub IsAnswered : ℕ → List ℕ → Variables → Space → List ℕ → Variables → Space → Type 0
+IsAnswered number line variables s text variables' s' = IsAnsweredAs (is_tree line) number line variables s text variables' s'
 
 -- lines, the first of this number, are performed one after another, and their answers in a row are the output
 abbrev pub AreAnswered : ℕ → List (List ℕ) → Variables → Space → List ℕ → Variables → Space → Type 0

@@ -1,4 +1,4 @@
-//! What is true of all sessions.
+//! The law of all sessions.
 
 ghost use Rattle.ob_session.specs.Session.{SessionsAreRuns};
 

@@ -1,6 +1,6 @@
 -- A shared namespace may be lent to threads, for any set of types, handle table, ledger and publisher. A check makes no such proof by itself, since the namespace under the lock keeps its first state as a snapshot.
 --     locked_send      the state under the lock may go to another thread
---     guarded_send     so may it with its publisher
+--     guarded_send     so may it with the copy of its rows and its publisher
 --     shared_sync      so threads may share the lock
 --     captures_sync      threads may share a closure where they may share all that it captures; its name plays no part
 use mathlib.Core.List.{List, [], ◌∷◌}
@@ -25,7 +25,8 @@ use Rattle.ob_core.proofs.namespace.Core.TheSendSync as core
 use Rattle.ob_segments.proofs.journal.Journal.TheSendSync as journal
 use Rattle.ob_locked.specs.contracts.locked.Locked as locked
 use Rattle.ob_locked.specs.contracts.locked.Locked.TheInside as locked_fields
-use Rattle.ob_shared.specs.declared.publishing.Publishing as Publishing
+use Rattle.ob_mirror.proofs.mirror.Mirror.TheSendSync as mirror
+use Rattle.ob_published.specs.declared.publishing.Publishing as Publishing
 use Rattle.ob_shared.specs.contracts.guarded.Guarded as guarded
 use Rattle.ob_shared.specs.contracts.guarded.Guarded.TheInside as guarded_fields
 use Rattle.ob_shared.specs.contracts.shared.Shared as shared
@@ -35,7 +36,7 @@ use Rattle.ob_shared.specs.contracts.shared.Shared.TheInside as shared_fields
 snapshot_send : (T : RattleType) → IsSend (snapshot.the_row T)
 snapshot_send T = record { owned = λ d vs. ((λ vss. (tt, ((λ uss. (tt, tt)), tt))), tt); leaving = λ k f vs. tt }
 
-module _ (T H L P K F I U : RattleType) (t : TypeSet.Ghosts T.Denot K.Denot F.Denot I.Denot) (k : PartialEq.Ghosts K.Denot) (h : HandleTable.Ghosts H.Denot) (l : Ledger.Ghosts L.Denot) (p : Publishing.Ghosts P.Denot T.Denot U.Denot K.Denot F.Denot I.Denot) where
+module _ (T H L P K F I U : RattleType) (t : TypeSet.Ghosts T.Denot K.Denot F.Denot I.Denot) (k : PartialEq.Ghosts K.Denot) (h : HandleTable.Ghosts H.Denot) (l : Ledger.Ghosts L.Denot) (p : Publishing.Ghosts P.Denot U.Denot) where
   pub locked_send : IsSend T → IsSend H → IsSend K → IsSync K → IsSend F → IsSend I → IsSync F → IsSend (locked.the_row T H L K F I t k h l)
   locked_send set table kind kinds face inner faces =
       view_send (locked_fields.the_row T H L K F I t k h l) _ _ _ _
@@ -52,7 +53,7 @@ module _ (T H L P K F I U : RattleType) (t : TypeSet.Ghosts T.Denot K.Denot F.De
   guarded_send set table publisher kind kinds face inner faces =
       view_send (guarded_fields.the_row T H L P K F I U t k h l p) _ _ _ _
       (recorded_send (guarded_fields.the_field T H L P K F I U t k h l p).row _ _ (guarded_fields.the_type T H L P K F I U t k h l p).to_one
-      (struct_send (shape (guarded_fields.the_type T H L P K F I U t k h l p)) (locked_send set table kind kinds face inner faces, (publisher, tt))))
+      (struct_send (shape (guarded_fields.the_type T H L P K F I U t k h l p)) (locked_send set table kind kinds face inner faces, (mirror.the_send, (publisher, tt)))))
 
   pub shared_sync : IsSend T → IsSend H → IsSend P → IsSend K → IsSync K → IsSend F → IsSend I → IsSync F → IsSync (shared.the_row T H L P K F I U t k h l p)
   shared_sync set table publisher kind kinds face inner faces =

@@ -1,3 +1,4 @@
 pub mod Chained
 pub mod Lent
 pub mod Onward
+pub mod Keeping

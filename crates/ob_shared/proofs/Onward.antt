@@ -1,9 +1,9 @@
 -- Histories that go on by a step, or stay as they were.
 use Rattle.std.proofs.Common.{◌≡◌, ◌∙◌, ℕ, ◌+◌, Bool, true, false, List, [], ◌∷◌, ◌++◌, length, Result, Ok, Err, OnOk, OnErr, inl, inr, refl, ap, sym, subst, append_assoc}
-use Rattle.std.specs.Prelude.{IfOk, IfErr, IsTrue}
+use Rattle.std.specs.Prelude.{IfOk, IsTrue}
 use Rattle.std.proofs.lemmas.Bool.{false≢true}
 use Rattle.ob_base.specs.declared.fault.Fault.{Fault}
-use Rattle.ob_base.specs.declared.fault.Fault.TheVariants.{Refused}
+use Rattle.ob_base.specs.declared.fault.Fault.TheVariants.{Memory, Refused}
 use Rattle.ob_base.specs.declared.status.Status.TheVariants.{InvalidParameter}
 use Rattle.std.proofs.lemmas.List.{append-nil}
 use Rattle.ob_model.specs.declared.reply.Answer.{Answer}
@@ -17,7 +17,9 @@ use Rattle.ob_locked.proofs.Keeps.{sealed_whole}
 use Rattle.ob_locked.specs.Locked.{History}
 use Rattle.ob_locked.specs.Passed.{Passed, IsKnown}
 use Rattle.ob_locked.specs.Steps.{IsMade, sealed_then}
-use Rattle.ob_shared.specs.Later.{IsLater, IsPublished, IsUnpublished}
+use Rattle.ob_shared.specs.Later.{IsLater}
+use Rattle.ob_published.specs.declared.publication.Publication.{Publication}
+use Rattle.ob_shared.specs.Publisher.{IsPublishedOf, IsUnpublished}
 
 module _ {K T F I : Type 0} (g : Procedures K T F I) (h : History K T F I) (run : Run g h.first (whole h.journal) h.state) where
   -- nothing came
@@ -49,21 +51,25 @@ module _ {K T F I : Type 0} (g : Procedures K T F I) (h : History K T F I) (run 
   later_after h' later same after = subst (λ x. IsLater g x later) same after
 
   -- whether the pass is known, as it was tested
-  module _ (j : Journal K) (same : j ≡ h.journal) (p : Passed K) (known : Bool) (told : (IsTrue known → IsKnown (whole j) p.receipts) × (IsKnown (whole j) p.receipts → IsTrue known)) where
+  module _ (j : Journal K) (same : j ≡ h.journal) (p : Passed K) (publishes : Type 0) (known : Bool) (told : (IsTrue known → IsKnown (whole j) p.receipts) × (IsKnown (whole j) p.receipts → IsTrue known)) where
     -- the pass is a stranger's
-    pub stranger_unpublished : (faults : Type 0) → known ≡ false → IsUnpublished g p (Refused InvalidParameter) faults
-    stranger_unpublished faults off =
-        (h, run, inl (refl, λ is. false≢true (sym off ∙ told.1 (subst (λ x. IsKnown (whole x) p.receipts) (sym same) is))))
+    pub stranger_unpublished : known ≡ false → IsUnpublished g p publishes (Refused InvalidParameter)
+    stranger_unpublished off =
+        (h, run, inl (refl, inl (λ is. false≢true (sym off ∙ told.1 (subst (λ x. IsKnown (whole x) p.receipts) (sym same) is)))))
 
-    known_now : known ≡ true → IsKnown (whole h.journal) p.receipts
+    -- nothing is published here
+    pub never_unpublished : (publishes → ⊥) → IsUnpublished g p publishes (Refused InvalidParameter)
+    never_unpublished never = (h, run, inl (refl, inr never))
+
+    pub known_now : known ≡ true → IsKnown (whole h.journal) p.receipts
     known_now on = subst (λ x. IsKnown (whole x) p.receipts) same (told.0 on)
 
-    -- the publisher published, or had a fault
-    pub published_known : {A P : Type 0} (r : Result A Fault) (publisher : P) (shows : P → A → History K T F I → Type 0) → known ≡ true → IfOk r (λ x. shows publisher x h)
-        → IfOk r (λ x. (w : P) × IsPublished g p (shows w x))
-    published_known (Ok x) publisher shows on shown = (publisher, (h, run, known_now on, shown))
-    published_known (Err e) publisher shows on shown = tt
+    -- it ran out of memory
+    pub memory_unpublished : publishes → known ≡ true → IsUnpublished g p publishes Memory
+    memory_unpublished here on = (h, run, inr (refl, known_now on, here))
 
-    pub known_unpublished : {A : Type 0} (r : Result A Fault) (faults : Fault → Type 0) → known ≡ true → IfErr r faults → IfErr r (λ fault. IsUnpublished g p fault (faults fault))
-    known_unpublished (Ok x) faults on why = tt
-    known_unpublished (Err e) faults on why = (h, run, inr (known_now on, why))
+-- what is published is that of the history that was there
+pub published_there : {K T F I A : Type 0} (g : Procedures K T F I) (h : History K T F I) (p : Passed K) (r : Result A Fault) (known : A → List Publication)
+    → IfOk r (λ x. IsPublishedOf g p (known x) h) → IfOk r (λ x. (there : History K T F I) × IsPublishedOf g p (known x) there)
+published_there g h p (Ok x) known is = (h, is)
+published_there g h p (Err fault) known is = tt

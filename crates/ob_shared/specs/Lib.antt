@@ -1,3 +1,4 @@
 pub mod Told
 pub mod Chains
 pub mod Later
+pub mod Publisher

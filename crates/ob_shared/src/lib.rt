@@ -4,7 +4,7 @@
 //! of the step that was made: [`Shared::start`] begins a command, [`Shared::resume`] brings the parse that an open waits for,
 //! [`Shared::abandon`] gives such an open up, and [`Shared::open_with`] runs a command to its reply. [`Shared::seal`] seals a segment of
 //! the journal, so that it can be written out while others go on. Each of these takes the lock for
-//! one step alone; a parse is run between two steps, with nothing held. [`Shared::publish`] has the [`Publishing`] under the lock show others
+//! one step alone; a parse is run between two steps, with nothing held. [`Shared::publish`] has the [`Publishing`] under the lock show viewers
 //! the namespace as it is. Once all callers have ended, [`Shared::close`] gives back
 //! the namespace and the journal, of which each pass has its own steps as receipts.
 //!
@@ -13,7 +13,6 @@
 #![tactic(auto)]
 
 mod guarded;
-mod publishing;
 mod shared;
 mod to_reply;
 mod under;
@@ -23,6 +22,6 @@ pub use ob_locked::{
     Asked, Journal, Locked, Parsed, Parsing, Pass, Pending, Prepared, Segment, Started,
     open_locked, seal_step, step,
 };
-pub use publishing::Publishing;
+pub use ob_published::Publishing;
 pub use shared::{Ended, Shared, open_shared};
 pub use to_reply::Gate;

@@ -11,16 +11,18 @@ ghost use Rattle.ob_types.specs.Pending.{run_of_end};
 ghost use Rattle.ob_types.specs.Parse.{asked_of};
 ghost use Rattle.ob_locked.specs.Opened.{fresh_passes, most_seats};
 ghost use Rattle.ob_agreement.specs.Agreement.{Agrees};
-ghost use Rattle.ob_shared.specs.Later.{IsPublished, IsUnpublished};
+ghost use Rattle.ob_shared.specs.Publisher.{IsPublishedOf, IsUnpublished, Keeps};
+ghost use Rattle.ob_locked.specs.Locked.{History};
 ghost use Rattle.ob_shared.specs.Told.{IsCutOff, IsGivenUp, IsMismatchOfRun, IsNotBrought, IsNotStarted, IsSealed, IsTold, IsUnsealed};
 
-use crate::Publishing;
 use crate::guarded::Guarded;
 use ob_agreement::{Mismatch, agree};
 use ob_base::{Fault, Proc};
 use ob_core::{Core, HandleTable};
 use ob_locked::{Locked, Parsed, Pass, Pending, Prepared, Segment, Started, open_locked};
+use ob_mirror::Mirror;
 use ob_model::Command;
+use ob_published::Publishing;
 use ob_types::TypeSet;
 use std::alloc::Global;
 use std::marker::Model;
@@ -31,13 +33,13 @@ use std::sync::{Arc, Mutex, Wait};
 /// steps of all passes are counted; `P` publishes it, or nothing where it is `()`. Any number of threads may use it at once. Each call waits for the lock, and holds it for one step.
 /// Contracts see how many seats it has. (this profile)
 #[derive(Drop)]
-pub struct Shared<T: TypeSet, H: HandleTable, L: Ledger, P: Publishing<T> = ()> {
+pub struct Shared<T: TypeSet, H: HandleTable, L: Ledger, P: Publishing = ()> {
     lock: Mutex<Guarded<T, H, L, P>>,
     seats: u32,
     alloc: Global,
 }
 
-impl<T: TypeSet, H: HandleTable, L: Ledger, P: Publishing<T>> Model for Shared<T, H, L, P> {
+impl<T: TypeSet, H: HandleTable, L: Ledger, P: Publishing> Model for Shared<T, H, L, P> {
     ghost use Rattle.std.specs.Prelude.{ℕ, ◌≤◌};
     ghost use Rattle.ob_locked.specs.Opened.{most_seats};
 
@@ -79,24 +81,28 @@ pub fn open_shared<T: TypeSet, H: HandleTable, L: Ledger>(
     ensures memory { (0 < seats) → seats ≤ most_seats → IfErr result (λ fault. fault ≡ Memory) }
 {
     let (locked, passes) = open_locked(alloc, blank, types, seats)?;
-    Ok((Shared::new(alloc, locked, seats, ()), passes))
+    Ok((
+        Shared::new(alloc, locked, seats, Mirror::new(alloc), ()),
+        passes,
+    ))
 }
 
-impl<T: TypeSet, H: HandleTable, L: Ledger, P: Publishing<T>> Shared<T, H, L, P> {
-    /// Shares a namespace of so many seats, at most 1,024, with a publisher that has knowledge of its history. Takes no memory. (this
-    /// profile)
+impl<T: TypeSet, H: HandleTable, L: Ledger, P: Publishing> Shared<T, H, L, P> {
+    /// Shares a namespace of so many seats, at most 1,024, with a copy of its rows, and what publishes it. Takes no memory. (this profile)
     pub fn new(
         alloc: Global,
         locked: Locked<T, H, L>,
         seats: u32,
+        mirror: Mirror,
         publisher: P,
     ) -> Shared<T, H, L, P>
         requires seats { seats ≤ most_seats }
-        requires kept { P.keeps publisher locked }
+        requires keeps { P.publishes
+            → Keeps T.procedures P.opening P.leads mirror (P.recorded publisher) locked }
         ensures { result ≡ seats }
     {
         Shared {
-            lock: Mutex::new(Guarded::new(locked, publisher)),
+            lock: Mutex::new(Guarded::new(locked, mirror, publisher)),
             seats,
             alloc,
         }
@@ -222,20 +228,22 @@ impl<T: TypeSet, H: HandleTable, L: Ledger, P: Publishing<T>> Shared<T, H, L, P>
         (pass, sealed)
     }
 
-    /// Publishes the namespace as it is, so that viewers see it. A publish isn't a step: it adds no entry, and returns the pass as it is.
+    /// Publishes the namespace as it is: from now on viewers see its rows. The publications that it returns are those of the whole journal, in
+    /// which the pass's last receipt stands. A publish isn't a step: it adds no entry, and returns the pass as it is.
     ///
-    /// At a fault viewers see what they saw. It is `InvalidParameter` if the pass is a stranger's, and if nothing is published here; then
-    /// it is the publisher's. (this profile)
+    /// At a fault viewers see what they saw, or what an earlier publish failed to show, and the next publish catches up. It is
+    /// `InvalidParameter` if the pass is a stranger's, or if nothing is published here, as after [`open_shared`]; else `Memory`. (this
+    /// profile)
     pub fn publish<R: Wait>(
         &self,
         rt: &R,
         pass: Pass<T::Kind, L>,
     ) -> (Pass<T::Kind, L>, Result<P::Published, Fault>)
         ensures pass { result.0 ≡ pass }
-        ensures published { IfOk (result.1) (λ published. (publisher : P)
-            × IsPublished T.procedures pass (P.shows publisher published)) }
+        ensures published { IfOk (result.1) (λ published. (h : History T.Kind T T.Face T.Inner)
+            × IsPublishedOf T.procedures pass (P.known published) h) }
         ensures fault { IfErr (result.1) (λ fault.
-            IsUnpublished T.procedures pass fault (P.faults fault)) }
+            IsUnpublished T.procedures pass P.publishes fault) }
     {
         let mut locked = self.lock.lock(rt);
         let published = locked.publish(&pass);

@@ -6,11 +6,12 @@ ghost use Rattle.ob_model.specs.declared.reply.Event.TheVariants.{Start};
 ghost use Rattle.ob_locked.specs.Passed.{Passed};
 ghost use Rattle.ob_shared.specs.Chains.{IsCutShort, IsGivenUpAt, IsOnTheWay, IsRunToReply};
 
-use crate::{Publishing, Shared};
+use crate::Shared;
 use ob_base::{Fault, Proc};
 use ob_core::HandleTable;
 use ob_locked::{Parsing, Pass, Started};
 use ob_model::{Command, Reply};
+use ob_published::Publishing;
 use ob_types::TypeSet;
 use std::sync::Wait;
 use std::sync::ledger::Ledger;
@@ -22,7 +23,7 @@ pub trait Gate {
     fn between(&self);
 }
 
-impl<T: TypeSet, H: HandleTable, L: Ledger, P: Publishing<T>> Shared<T, H, L, P> {
+impl<T: TypeSet, H: HandleTable, L: Ledger, P: Publishing> Shared<T, H, L, P> {
     /// Runs a command to its reply, and returns the pass with the receipts of its steps. While its open is pending, it calls the gate, runs
     /// the parse and brings it.
     ///

@@ -4,7 +4,7 @@ ghost use Rattle.std.specs.Prelude.{◌≡◌, IfOk, IfErr, OnErr};
 ghost use Rattle.ob_model.specs.declared.reply.Event.TheVariants.{Start, Resume};
 ghost use Rattle.ob_types.specs.Pending.{run_of_end};
 ghost use Rattle.ob_types.specs.Parse.{asked_of};
-ghost use Rattle.ob_shared.specs.Later.{IsLater, IsPublished, IsUnpublished};
+ghost use Rattle.ob_shared.specs.Later.{IsLater};
 ghost use Rattle.ob_shared.specs.Told.{IsCutOff, IsGivenUp, IsGivenUpAfter, IsNotBrought, IsNotStarted, IsSealed, IsTold, IsUnsealed};
 ghost use Rattle.std.specs.Arc.{arc_value};
 

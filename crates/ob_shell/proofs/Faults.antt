@@ -10,7 +10,7 @@ use Rattle.clap.specs.declared.error.Error.{Error}
 use Rattle.clap.specs.Words.{App, HasKind, Row, Text, built, fault_of, first_of, is_simple, is_simple_and_free, new_app, subcommand_of, with_rule}
 use Rattle.clap.proofs.OnLiterals.{clap_on_literals}
 use Rattle.clap.proofs.WalkLemmas.{walk_stopped}
-use Rattle.ob_shell.specs.Plan.{IsFileIn, IsNothingMore, Named, Spells, check, file_rule, ntns, replay, run, script, session, task_of, threads}
+use Rattle.ob_shell.specs.Plan.{IsFileIn, IsNothingMore, Named, Spells, check, file_rule, ntns, picture_in, replay, run, script, session, task_of, threads, tree, tree_app}
 use Rattle.ob_shell.proofs.Flags.{HasOnlyRequests, dashes, dashes_alone, help, long_is_plain, or_else_next, or_else_none, version}
 
 -- the program, as the parser builds it
@@ -34,6 +34,9 @@ check_argument = codes "check"
 
 abbrev session_argument : Text
 session_argument = codes "session"
+
+abbrev tree_argument : Text
+tree_argument = codes "tree"
 
 abbrev help_argument : Text
 help_argument = codes "help"
@@ -60,50 +63,56 @@ check_name = (check_argument, [])
 abbrev session_name : Text × List Text
 session_name = (session_argument, [])
 
+abbrev tree_name : Text × List Text
+tree_name = (tree_argument, [])
+
 abbrev help_name : Text × List Text
 help_name = (help_argument, [])
 
 -- the subcommand that a argument names, by the names
-abbrev met_by : Bool → Bool → Bool → Bool → Bool → Bool → Option Text
-met_by is_run is_threads is_replay is_check is_session is_help = option_map (λ s. s.0)
+abbrev met_by : Bool → Bool → Bool → Bool → Bool → Bool → Bool → Option Text
+met_by is_run is_threads is_replay is_check is_session is_tree is_help = option_map (λ s. s.0)
     (if is_run || false then Some run_name else (if is_threads || false then Some threads_name
     else (if is_replay || false then Some replay_name else (if is_check || false then Some check_name
-    else (if is_session || false then Some session_name else (if is_help || false then Some help_name else None))))))
+    else (if is_session || false then Some session_name else (if is_tree || false then Some tree_name else (if is_help || false then Some help_name else None)))))))
 
--- a first argument is `run`, `threads`, `replay`, `check`, `session` or `--`
-abbrev IsFirst : Bool → Bool → Bool → Bool → Bool → Text → Type 0
-IsFirst is_run is_threads is_replay is_check is_session argument =
-    (is_run ≡ true) ⊎ ((is_threads ≡ true) ⊎ ((is_replay ≡ true) ⊎ ((is_check ≡ true) ⊎ ((is_session ≡ true) ⊎ (argument ≡ dashes)))))
+-- a first argument is `run`, `threads`, `replay`, `check`, `session`, `tree` or `--`
+abbrev IsFirst : Bool → Bool → Bool → Bool → Bool → Bool → Text → Type 0
+IsFirst is_run is_threads is_replay is_check is_session is_tree argument =
+    (is_run ≡ true) ⊎ ((is_threads ≡ true) ⊎ ((is_replay ≡ true) ⊎ ((is_check ≡ true) ⊎ ((is_session ≡ true) ⊎ ((is_tree ≡ true) ⊎ (argument ≡ dashes))))))
 
-first_turn : (is_run is_threads is_replay is_check is_session is_help : Bool) (argument : Text)
-    → or_else (other_fault top (met_by is_run is_threads is_replay is_check is_session is_help) argument nothing_held)
+first_turn : (is_run is_threads is_replay is_check is_session is_tree is_help : Bool) (argument : Text)
+    → or_else (other_fault top (met_by is_run is_threads is_replay is_check is_session is_tree is_help) argument nothing_held)
     (step_fault top 1
-    (subcommand_or_other top.rules (met_by is_run is_threads is_replay is_check is_session is_help) idle 1 argument nothing_held).0
-    (subcommand_or_other top.rules (met_by is_run is_threads is_replay is_check is_session is_help) idle 1 argument nothing_held).1) ≡ []
-    → IsFirst is_run is_threads is_replay is_check is_session argument
-first_turn true is_threads is_replay is_check is_session is_help argument none = inl refl
-first_turn false true is_replay is_check is_session is_help argument none = inr (inl refl)
-first_turn false false true is_check is_session is_help argument none = inr (inr (inl refl))
-first_turn false false false true is_session is_help argument none = inr (inr (inr (inl refl)))
-first_turn false false false false true is_help argument none = inr (inr (inr (inr (inl refl))))
-first_turn false false false false false true argument none = cc
-first_turn false false false false false false argument none =
-    inr (inr (inr (inr (inr (dashes_alone top top_has_only_requests 1 refl None argument none)))))
+    (subcommand_or_other top.rules (met_by is_run is_threads is_replay is_check is_session is_tree is_help) idle 1 argument nothing_held).0
+    (subcommand_or_other top.rules (met_by is_run is_threads is_replay is_check is_session is_tree is_help) idle 1 argument nothing_held).1) ≡ []
+    → IsFirst is_run is_threads is_replay is_check is_session is_tree argument
+first_turn true is_threads is_replay is_check is_session is_tree is_help argument none = inl refl
+first_turn false true is_replay is_check is_session is_tree is_help argument none = inr (inl refl)
+first_turn false false true is_check is_session is_tree is_help argument none = inr (inr (inl refl))
+first_turn false false false true is_session is_tree is_help argument none = inr (inr (inr (inl refl)))
+first_turn false false false false true is_tree is_help argument none = inr (inr (inr (inr (inl refl))))
+first_turn false false false false false true is_help argument none = inr (inr (inr (inr (inr (inl refl)))))
+first_turn false false false false false false true argument none = cc
+first_turn false false false false false false false argument none =
+    inr (inr (inr (inr (inr (inr (dashes_alone top top_has_only_requests 1 refl None argument none))))))
 
 -- what a first argument without a fault is
 abbrev IsFirstArgument : Text → Type 0
 IsFirstArgument argument =
-    (argument ≡ run_argument) ⊎ ((argument ≡ threads_argument) ⊎ ((argument ≡ replay_argument) ⊎ ((argument ≡ check_argument) ⊎ ((argument ≡ session_argument) ⊎ (argument ≡ dashes)))))
+    (argument ≡ run_argument) ⊎ ((argument ≡ threads_argument) ⊎ ((argument ≡ replay_argument) ⊎ ((argument ≡ check_argument) ⊎ ((argument ≡ session_argument)
+    ⊎ ((argument ≡ tree_argument) ⊎ (argument ≡ dashes))))))
 
 first_argument : (argument : Text) → turn_fault top names (walk_from nothing_held) argument ≡ [] → IsFirstArgument argument
 first_argument argument none =
-    elim (first_turn (bytes_eq run_argument argument) (bytes_eq threads_argument argument) (bytes_eq replay_argument argument) (bytes_eq check_argument argument) (bytes_eq session_argument argument) (bytes_eq help_argument argument) argument none) [
+    elim (first_turn (bytes_eq run_argument argument) (bytes_eq threads_argument argument) (bytes_eq replay_argument argument) (bytes_eq check_argument argument) (bytes_eq session_argument argument) (bytes_eq tree_argument argument) (bytes_eq help_argument argument) argument none) [
       | inl is_run ↦ inl (sym ((bytes_eq-Decides run_argument argument).0 is_run))
       | inr (inl is_threads) ↦ inr (inl (sym ((bytes_eq-Decides threads_argument argument).0 is_threads)))
       | inr (inr (inl is_replay)) ↦ inr (inr (inl (sym ((bytes_eq-Decides replay_argument argument).0 is_replay))))
       | inr (inr (inr (inl is_check))) ↦ inr (inr (inr (inl (sym ((bytes_eq-Decides check_argument argument).0 is_check)))))
       | inr (inr (inr (inr (inl is_session)))) ↦ inr (inr (inr (inr (inl (sym ((bytes_eq-Decides session_argument argument).0 is_session))))))
-      | inr (inr (inr (inr (inr is_dashes)))) ↦ inr (inr (inr (inr (inr is_dashes))))
+      | inr (inr (inr (inr (inr (inl is_tree))))) ↦ inr (inr (inr (inr (inr (inl (sym ((bytes_eq-Decides tree_argument argument).0 is_tree)))))))
+      | inr (inr (inr (inr (inr (inr is_dashes))))) ↦ inr (inr (inr (inr (inr (inr is_dashes)))))
     ]
 
 -- ---- the arguments behind a subcommand
@@ -226,6 +235,10 @@ left_to_session : (rest : List Text) → stop_after top.rules names (session_arg
 unfolding walked
 left_to_session rest = sym (ap (λ (w : Walk). w.stopped) (walk_stopped top.rules names (walk_from nothing_held) session_argument [] rest))
 
+left_to_tree : (rest : List Text) → stop_after top.rules names (tree_argument ∷ rest) ≡ Some (tree_argument, rest)
+unfolding walked
+left_to_tree rest = sym (ap (λ (w : Walk). w.stopped) (walk_stopped top.rules names (walk_from nothing_held) tree_argument [] rest))
+
 no_fault_below : (name : Text) (arguments : List Text) → fault_of ntns (name ∷ arguments) ≡ [] → entered_fault (built ntns) (stop_after top.rules names arguments) ≡ []
 no_fault_below name arguments none = or_else_none _ _ (or_else_next _ _ none)
 
@@ -299,6 +312,16 @@ names_session name rest none =
     let rows : subcommand_of ntns (name ∷ session_argument ∷ rest) ≡ Some (session_argument, rows_after alone.rules [] rest) = ap (entered (built ntns)) (left_to_session rest) in
     (session, (ap task_of rows, (refl, is_nothing rest below)))
 
+-- the subcommand `tree`, as the parser builds it
+abbrev drawn : Shape
+drawn = built_leaf (inherited (with_leaf_noted (marked_built ntns.top)) tree_app.top)
+
+names_tree : (name : Text) (rest : List Text) → NamesTask (name ∷ tree_argument ∷ rest)
+names_tree name rest =
+    let rows : subcommand_of ntns (name ∷ tree_argument ∷ rest) ≡ Some (tree_argument, rows_after drawn.rules [] rest) = ap (entered (built ntns)) (left_to_tree rest) in
+    let found : List Row = rows_after drawn.rules [] rest in
+    (tree (picture_in found) (first_of (codes "FILE") found), (ap task_of rows, refl))
+
 names_dashes : (name : Text) (rest : List Text) → fault_of ntns (name ∷ dashes ∷ rest) ≡ [] → NamesTask (name ∷ dashes ∷ rest)
 unfolding clap_on_literals
 names_dashes name [] none = (script, (refl, refl))
@@ -315,7 +338,8 @@ names_by name argument rest none (inr (inr (inr (inl same)))) =
     subst (λ w. NamesTask (name ∷ w ∷ rest)) (sym same) (names_check name rest (subst (λ w. fault_of ntns (name ∷ w ∷ rest) ≡ []) same none))
 names_by name argument rest none (inr (inr (inr (inr (inl same))))) =
     subst (λ w. NamesTask (name ∷ w ∷ rest)) (sym same) (names_session name rest (subst (λ w. fault_of ntns (name ∷ w ∷ rest) ≡ []) same none))
-names_by name argument rest none (inr (inr (inr (inr (inr same))))) =
+names_by name argument rest none (inr (inr (inr (inr (inr (inl same)))))) = subst (λ w. NamesTask (name ∷ w ∷ rest)) (sym same) (names_tree name rest)
+names_by name argument rest none (inr (inr (inr (inr (inr (inr same)))))) =
     subst (λ w. NamesTask (name ∷ w ∷ rest)) (sym same) (names_dashes name rest (subst (λ w. fault_of ntns (name ∷ w ∷ rest) ≡ []) same none))
 
 first_turn_passes : (name argument : Text) (rest : List Text) → fault_of ntns (name ∷ argument ∷ rest) ≡ [] → turn_fault top names (walk_from nothing_held) argument ≡ []

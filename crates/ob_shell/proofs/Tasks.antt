@@ -1,7 +1,9 @@
 -- Lemmas on the task that the parser's matches name.
-use Rattle.std.proofs.Common.{◌≡◌, ◌∙◌, List, Option, Some, None, true, option_map, Box, ap, refl, sym, subst, codes, bytes_eq}
+use Rattle.std.proofs.Common.{◌≡◌, ◌∙◌, List, Option, Some, None, true, false, option_map, Box, ap, refl, sym, subst, codes, bytes_eq}
 use Rattle.std.proofs.lemmas.Slice.Eq.{bytes_eq-Decides}
+use Rattle.std.specs.Borrow.{Bor}
 use Rattle.std.specs.Box.{box_value}
+use Rattle.std.specs.Option.{option_map_or}
 use Rattle.clap.specs.Words.{Row, Text, first_of, first_value, rows_of, subcommand_name_of, subcommand_rows_of}
 use Rattle.clap.specs.Simple.{subcommand_rows}
 use Rattle.clap.specs.declared.parser.matches.ArgMatches.{ArgMatches}
@@ -9,7 +11,8 @@ use Rattle.clap.specs.declared.parser.matches.ArgMatches.TheViews.{out-ArgMatche
 use Rattle.clap.specs.declared.parser.matches.Found.{Found}
 use Rattle.clap.specs.declared.parser.matches.SubCommand.{SubCommand}
 use Rattle.clap.proofs.WalkLemmas.{first_value-rows}
-use Rattle.ob_shell.specs.Plan.{Named, check, replay, run, task_of, threads}
+use Rattle.ob_script_tree.specs.declared.picture.Picture.{Picture}
+use Rattle.ob_shell.specs.Plan.{Named, check, is_set, picture_in, replay, run, task_of, text_of, threads, tree}
 
 -- a subcommand with its name and its rows
 used_as : {Z : Type 0} (used : Option (Box SubCommand Z)) (name : Text) (rows : List Row)
@@ -84,3 +87,16 @@ pub task_of_check : (m : ArgMatches) (name : Text) (inside : Found) (file : Opti
     → option_map check file ≡ task_of (subcommand_rows_of m)
 task_of_check m name inside file same_name same_rows is_check =
     task_of_file check m name inside file same_name same_rows (check_is_named name (rows_of inside) is_check)
+
+-- a switch that has a value, or none
+pub set_by : (inside : Found) (id : Text) (value : Text) → Some value ≡ first_value inside id → bytes_eq value (codes "true") ≡ is_set id (rows_of inside)
+set_by inside id value is = ap (λ o. option_map_or (λ v. bytes_eq v (codes "true")) o false) (is ∙ first_value-rows inside id)
+
+pub unset_by : (inside : Found) (id : Text) → None ≡ first_value inside id → false ≡ is_set id (rows_of inside)
+unset_by inside id is = ap (λ o. option_map_or (λ v. bytes_eq v (codes "true")) o false) (is ∙ first_value-rows inside id)
+
+-- the task of a form and of a path or none
+pub tree_named : (inside : Found) (picture : Picture) (file : Option (Bor Text)) → picture ≡ picture_in (rows_of inside) → text_of file ≡ first_value inside (codes "FILE")
+    → tree picture (text_of file) ≡ tree (picture_in (rows_of inside)) (first_of (codes "FILE") (rows_of inside))
+tree_named inside picture file is_picture is_file =
+    ap (λ p. tree p (text_of file)) is_picture ∙ ap (tree (picture_in (rows_of inside))) (is_file ∙ first_value-rows inside (codes "FILE"))

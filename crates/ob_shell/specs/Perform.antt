@@ -21,15 +21,17 @@ use Rattle.ob_threads.specs.declared.ends.ThreadsEnding.TheVariants as threads
 use Rattle.ob_journal.specs.Verdict.{Replays}
 use Rattle.ob_journal.specs.declared.verdict.Verdict.{Verdict}
 use Rattle.ob_shell.specs.declared.planning.Task.{Task}
+use Rattle.ob_script_tree.specs.Drawing.{DrawsPartTo, DrawsTo}
+use Rattle.ob_script_tree.specs.declared.picture.Picture.{Picture}
 use Rattle.ob_session.specs.Session.{IsConversation, IsConversationCut}
-use Rattle.ob_shell.specs.declared.planning.Task.TheVariants.{Script, Run, Threads, Replay, Check, Session}
+use Rattle.ob_shell.specs.declared.planning.Task.TheVariants.{Script, Run, Threads, Replay, Check, Session, Tree}
 
--- the line that tells a text
+-- the line that reports a text
 abbrev pub line_of : List ℕ → List ℕ
 line_of text = codes "ntns: " ++ text ++ codes "\n"
 
--- What a call answers of what it had to say on standard error: that all of it was written, or what a write that failed
--- made, and nothing else makes.
+-- The result of a call that writes to standard error: that all of it was written, or the fault of a write that failed,
+-- which nothing else makes.
 abbrev pub Told : Type 0
 Told = Result (Unit {0}) Unwritten
 
@@ -38,7 +40,7 @@ pub record Complains (fault : ShellFault) (line : Told) (told told' : Option (Li
   pub whole : OnOk line (Appends told told' (line_of (fault_text_of fault)))
   pub part : OnErr line (AppendsFront told told' (line_of (fault_text_of fault)))
 
--- what standard error has to say of how a task ended, since the output doesn't: a fault, and of a run with workers, whose output
+-- the text on standard error of how a task ended, where the output doesn't say so: a fault, and of a run with workers, whose output
 -- is a journal, that a step found no memory or was refused
 abbrev pub text_told : Result TaskOutcome ShellFault → Option (List ℕ)
 text_told (Ok (ended.Script ending)) = None
@@ -71,6 +73,16 @@ pub record Tells (outcome : Result TaskOutcome ShellFault) (line : Told) (told t
 pub record RunsScript (outcome : Result Ending ShellFault) (input written written' : Option (List ℕ)) : Type 0 where
   pub played : IfOk outcome (λ ending. IfSome input (λ script. PlaysTo written written' script ending))
   pub part : (unwritten : Unwritten) → IsErrOf outcome (Write unwritten) → IfSome input (λ script. PlaysPartTo written written' script)
+  pub unwritten : IfErr outcome (λ fault. is_unwritten fault ≡ false → written' ≡ written)
+  pub too_long : IsErrOf outcome TooLong → IfSome input (λ script. SCRIPT_LIMIT < length script)
+  pub faults : IfErr outcome (λ fault. fault ≢ Mismatch)
+  pub refused : IfSome input (λ script. SCRIPT_LIMIT < length script → IsErr outcome)
+  pub long : IfSome input (λ script. SCRIPT_LIMIT < length script → IfErr outcome StopsLong × (written' ≡ written))
+
+-- the same of a script of which the tree is drawn that it leaves
+pub record RunsTree (picture : Picture) (outcome : Result Ending ShellFault) (input written written' : Option (List ℕ)) : Type 0 where
+  pub drawn : IfOk outcome (λ ending. IfSome input (λ script. DrawsTo picture written written' script ending))
+  pub part : (unwritten : Unwritten) → IsErrOf outcome (Write unwritten) → IfSome input (λ script. DrawsPartTo picture written written' script)
   pub unwritten : IfErr outcome (λ fault. is_unwritten fault ≡ false → written' ≡ written)
   pub too_long : IsErrOf outcome TooLong → IfSome input (λ script. SCRIPT_LIMIT < length script)
   pub faults : IfErr outcome (λ fault. fault ≢ Mismatch)
@@ -130,6 +142,7 @@ Runs (Threads file) outcome input written written' = OfThreads (λ ran. IsWritte
 Runs (Replay file) outcome input written written' = OfReplay (λ ran. Replays ran input written written') outcome
 Runs (Check file) outcome input written written' = OfCheck (λ ran. Checks ran input written written') outcome
 Runs Session outcome input written written' = RunsSession outcome input written written'
+Runs (Tree file picture) outcome input written written' = OfScript (λ ran. RunsTree picture ran input written written') outcome
 
 -- the task, to this outcome, with its input, and what was written before and after
 pub record Performs (task : Task) (outcome : Result TaskOutcome ShellFault) (line : Told) (input written written' told told' : Option (List ℕ)) : Type 0 where

@@ -11,7 +11,7 @@ use Rattle.ob_shell.specs.declared.end.ProgramOutcome.{ProgramOutcome}
 use Rattle.ob_shell.specs.declared.end.ProgramOutcome.TheVariants.{Task, Mistake, Help}
 use Rattle.ob_shell.specs.Perform.{Complains, Told}
 
--- memory was wanting, and standard error says so
+-- memory ran out, and standard error says so
 pub record Starves (end : ProgramOutcome) (line : Told) (written written' told told' : Option (List ℕ)) : Type 0 where
   pub ended : end ≡ Task (Err Memory)
   pub silent : Keeps written written'

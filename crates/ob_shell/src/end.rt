@@ -27,7 +27,7 @@ pub enum TaskOutcome {
 /// How the program ends. (this profile)
 #[derive(PartialEq, Eq, Debug, Drop)]
 pub enum ProgramOutcome {
-    /// A task was done to this ending, or a fault ended it. Memory that was wanting before there was a
+    /// A task was done to this ending, or a fault ended it. Memory that ran out before there was a
     /// task, a file that could not be opened, and help or a version that could not be written are such faults too.
     Task(Result<TaskOutcome, ShellFault>),
     /// The arguments are a mistake.

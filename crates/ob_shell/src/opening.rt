@@ -14,10 +14,10 @@ use std::io::{Error, ErrorKind, Read, Write};
 use std::sync::Wait;
 use std::thread::Threads;
 
-/// Does the task over the file, where it was opened, and tells what [`perform`] tells.
+/// Does the task over the file, if it was opened, and returns what [`perform`] returns.
 ///
-/// A file that could not be opened is told on `errors`, and nothing is written: as out of memory where
-/// the opening wanted it, and else as an input that cannot be read. (this profile)
+/// If it could not be opened, the fault is `Memory` if the opening was out of memory, and else `Read`; its line is written to
+/// `errors`, and nothing to the writer. (this profile)
 pub fn perform_opened<H: Threads + Wait + Sync, I: Read + Drop, W: Write, E: Write>(
     rt: &H,
     alloc: Global,
@@ -41,7 +41,7 @@ pub fn perform_opened<H: Threads + Wait + Sync, I: Read + Drop, W: Write, E: Wri
     }
 }
 
-// What a fault of opening a file is to the program.
+// The program's fault for a fault of opening a file.
 fn opening_fault(error: Error) -> ShellFault
     ensures { result ≡ fault_of_opening (error_kind error) }
 {

@@ -14,6 +14,7 @@ use crate::planning::Task;
 use ob_check::run_check;
 use ob_journal::run_replay;
 use ob_output::{ShellFault, Unwritten, write_out};
+use ob_script_tree::run_tree;
 use ob_scripts::run_script;
 use ob_session::run_session;
 use ob_threads::{ThreadsEnding, run_threads};
@@ -24,13 +25,13 @@ use std::sync::Wait;
 use std::sync::ledger::Blank;
 use std::thread::Threads;
 
-/// Does the task, and tells how it ended: the ending of its kind of run, the verdict on a journal, what a check of a script found, or the fault that ended the task; and
-/// whether what standard error has to say of that was written whole.
+/// Does the task, and returns how it ended: the ending of its kind of run, the verdict on a journal, the finding of a check of a script, or the fault that ended the task; and
+/// whether its line on standard error was written whole.
 ///
 /// The input is the reader, which is standard input or the file that was opened for the task, and
-/// the output goes to the writer. To `errors` goes one line, `ntns: ` and the text of the fault that
-/// is answered, or, where a run with workers had a step that found no memory or was refused, a text that says
-/// so; an end that the output tells has none. A fault of writing that line changes no
+/// the output is written to the writer. One line is written to `errors`: `ntns: ` and the text of the fault that
+/// is returned, or, after a run with workers in which a step found no memory or was refused, a text that says
+/// so. An end that the output reports has no such line. A fault of writing that line changes no
 /// ending. A session is another call: [`converse`]. (this profile)
 pub fn perform<H: Threads + Wait + Sync, R: Read, W: Write, E: Write>(
     rt: &H,
@@ -69,7 +70,7 @@ pub fn converse<R: BufRead, W: Write, E: Write>(
     (outcome, told)
 }
 
-// Runs what the task asks for, and tells nothing of it.
+// Does the task, and writes nothing to standard error.
 fn run_task<H: Threads + Wait + Sync, R: Read, W: Write>(
     rt: &H,
     alloc: Global,
@@ -98,6 +99,10 @@ fn run_task<H: Threads + Wait + Sync, R: Read, W: Write>(
             Ok(checked) => Ok(TaskOutcome::Check(checked)),
             Err(fault) => Err(fault),
         },
+        Task::Tree { file: _, picture } => match run_tree(alloc, reader, writer, picture) {
+            Ok(ending) => Ok(TaskOutcome::Script(ending)),
+            Err(fault) => Err(fault),
+        },
         Task::Session => unreachable!(),
     }
 }
@@ -115,7 +120,7 @@ fn run_workers<H: Threads + Wait + Sync, R: Read, W: Write>(
     run_threads::<_, Brand, _, _>(rt, alloc, Blank::new(1_024), reader, writer)
 }
 
-// Tells how a task ended, where the output doesn't, and answers whether all of that was written, as `complain` does.
+// Reports how a task ended, if the output doesn't; returns whether all of that was written, as `complain` does.
 fn tell<E: Write>(
     errors: &mut E,
     outcome: &Result<TaskOutcome, ShellFault>,
@@ -136,7 +141,7 @@ fn tell<E: Write>(
     }
 }
 
-/// Tells that memory was wanting before there was a task. (this profile)
+/// Reports that memory ran out before there was a task. (this profile)
 pub fn starve<E: Write>(errors: &mut E) -> (ProgramOutcome, Result<(), Unwritten>)
     ensures end { result.0 ≡ ends.Task (Err Memory) }
     ensures told { Complains Memory (result.1) (E.contents errors.old) (E.contents errors.new) }
@@ -145,8 +150,8 @@ pub fn starve<E: Write>(errors: &mut E) -> (ProgramOutcome, Result<(), Unwritten
     (ProgramOutcome::Task(Err(ShellFault::Memory)), told)
 }
 
-/// Writes the line that tells the fault: `ntns: `, its text and LF. Where a write fails, a beginning of the
-/// line stands, and nothing more is tried. It takes no memory. (this profile)
+/// Writes the line that reports the fault: `ntns: `, its text and LF. If a write fails, a beginning of the
+/// line was written, and nothing more is tried. It takes no memory. (this profile)
 pub fn complain<E: Write>(errors: &mut E, fault: &ShellFault) -> Result<(), Unwritten>
     ensures ok { OnOk result
         (Appends (E.contents errors.old) (E.contents errors.new) (line_of
@@ -158,7 +163,7 @@ pub fn complain<E: Write>(errors: &mut E, fault: &ShellFault) -> Result<(), Unwr
     say(errors, fault.text())
 }
 
-// Writes the line that tells a text, as `complain` does.
+// Writes the line that reports a text, as `complain` does.
 fn say<E: Write>(errors: &mut E, text: &str) -> Result<(), Unwritten>
     ensures ok { OnOk result
         (Appends (E.contents errors.old) (E.contents errors.new) (line_of text.now)) }

@@ -1,16 +1,18 @@
-//! What the program's arguments ask for.
+//! The task that the program's arguments ask for.
 
-ghost use Rattle.std.specs.Prelude.{◌≡◌, ◌≤◌, true, false, Some, IfOk, IfErr, length, map, option_map};
-ghost use Rattle.clap.specs.Words.{FailsBy, app_of, fault_of, kind_of, rule_of, subcommand_of, subcommand_rows_of, takes};
+ghost use Rattle.std.specs.Prelude.{◌≡◌, ◌≤◌, true, false, Some, IfOk, IfErr, codes, length, map, option_map};
+ghost use Rattle.clap.specs.Words.{FailsBy, app_of, fault_of, first_of, found_of, kind_of, rows_of, rule_of, subcommand_of, subcommand_rows_of, takes};
 ghost use Rattle.clap.specs.declared.builder.command.Command.TheViews.{out-Command as fields_of};
-ghost use Rattle.ob_shell.specs.Plan.{IsMistakeOrWant, Spells, about_of, check_about, check_app, examples_of, file_help, file_rule, named, ntns, ntns_about, ntns_examples, ntns_version, replay_about, replay_app, run_about, run_app, session_about, session_app, task_of, text_of, threads_about, threads_app, version_of};
+ghost use Rattle.ob_shell.specs.Plan.{IsMistakeOrWant, Spells, about_of, check_about, check_app, examples_of, file_help, file_rule, named, input_rule, is_set, input_help, ntns, ntns_about, ntns_examples, ntns_version, picture_in, replay_about, replay_app, run_about, run_app, session_about, session_app, switch_rule, task_of, text_of, threads_about, threads_app, tree, tree_about, tree_app, version_of};
 
 use clap::error::ErrorKind;
-use clap::{Arg, ArgMatches, Command, Error};
+use clap::{Arg, ArgAction, ArgMatches, Command, Error};
+use ob_script_tree::Picture;
+use ob_tree::Style;
 use std::alloc::{AllocError, Global};
 use std::convert::AsStr;
 
-/// What the program is to do. (this profile)
+/// A task of the program. (this profile)
 #[derive(Clone, Copy, PartialEq, Eq, Debug)]
 pub enum Task<'a> {
     /// Run the script on standard input.
@@ -25,13 +27,20 @@ pub enum Task<'a> {
     Check(&'a str),
     /// Run each line of standard input as it comes, and print its reply before the next one is read.
     Session,
+    /// Run the script in a file or on standard input, and write the tree of the namespace that it leaves.
+    Tree {
+        /// The path of the file; none: standard input.
+        file: Option<&'a str>,
+        /// The form of the tree.
+        picture: Picture,
+    },
 }
 
 /// The task that the arguments ask for. The first argument is the program's name.
 ///
 /// It is `Script` where no argument follows the program's name, or `--` alone, and `Run` where
 /// these are `run` and a path, which is taken as it is, with `--` before or after it or without;
-/// so it is `Threads` where they are `threads` and a path, `Replay` where they are `replay` and a path, `Check` where they are `check` and a path, and `Session` where they are `session` alone. The task is what the parser
+/// so it is `Threads` where they are `threads` and a path, `Replay` where they are `replay` and a path, `Check` where they are `check` and a path, and `Session` where they are `session` alone. It is `Tree` where they are `tree`, with `--ascii`, `--json` and a path or without. The task is what the parser
 /// `clap` states for these arguments and the program as `ntns` describes it. The faults are clap's: of the kinds that clap states for the arguments, which are mistakes, or
 /// the request for help or for the version; or out of memory, which alone can refuse arguments that name a task, as no
 /// arguments after the program's name do. (this profile)
@@ -80,7 +89,42 @@ fn task_in<'a>(matches: &ArgMatches<'a>) -> Option<Task<'a>>
             None => None,
         },
         Some((name, _)) if name == "session" => Some(Task::Session),
+        Some((name, inside)) if name == "tree" => Some(tree_in(inside)),
         Some(_) => None,
+    }
+}
+
+// The task that matches of the subcommand `tree` name.
+fn tree_in<'a>(matches: &ArgMatches<'a>) -> Task<'a>
+    ensures { named result ≡ tree (picture_in (rows_of (found_of matches.now)))
+        (first_of (codes "FILE") (rows_of (found_of matches.now))) }
+{
+    Task::Tree {
+        file: matches.get_str("FILE"),
+        picture: picture_in(matches),
+    }
+}
+
+// The form of the tree that matches of the subcommand `tree` ask for.
+fn picture_in(matches: &ArgMatches<'_>) -> Picture
+    ensures { result ≡ picture_in (rows_of (found_of matches.now)) }
+{
+    if is_set(matches, "json") {
+        Picture::Json
+    } else if is_set(matches, "ascii") {
+        Picture::Lines(Style::Ascii)
+    } else {
+        Picture::Lines(Style::Boxes)
+    }
+}
+
+// Whether a switch is set.
+fn is_set(matches: &ArgMatches<'_>, id: &str) -> bool
+    ensures { result ≡ is_set id.now (rows_of (found_of matches.now)) }
+{
+    match matches.get_str(id) {
+        Some(value) => value == "true",
+        None => false,
     }
 }
 
@@ -112,12 +156,14 @@ fn program<'a>(alloc: Global) -> Result<Command<'a>, AllocError>
     let replay = replay_command(alloc)?;
     let check = check_command(alloc)?;
     let session = session_command(alloc);
+    let tree = tree_command(alloc)?;
     let program = Command::new(alloc, "ntns")
         .subcommand(run)?
         .subcommand(threads)?
         .subcommand(replay)?
         .subcommand(check)?
-        .subcommand(session)?;
+        .subcommand(session)?
+        .subcommand(tree)?;
     Ok(
         program
             .about(
@@ -131,7 +177,8 @@ fn program<'a>(alloc: Global) -> Result<Command<'a>, AllocError>
   ntns threads workers.ntns > journal.txt  Runs a script with workers, and keeps its journal
   ntns replay journal.txt                  Checks that journal
   ntns check script.ntns                   Reports the lines that are wrong, and runs none
-  ntns session                             Replies to each line as it is typed",
+  ntns session                             Replies to each line as it is typed
+  ntns tree script.ntns                    Shows the namespace that a script leaves",
             ),
     )
 }
@@ -187,6 +234,42 @@ fn session_command<'a>(alloc: Global) -> Command<'a>
     Command::new(alloc, "session").about(
         "Runs each line of standard input as it comes, and prints its reply before it reads the next one",
     )
+}
+
+// The subcommand `tree`.
+fn tree_command<'a>(alloc: Global) -> Result<Command<'a>, AllocError>
+    ensures app { IfOk result (λ command. app_of command ≡ tree_app) }
+    ensures local { IfOk result (λ command. (fields_of command).has_globals ≡ false) }
+    ensures about { IfOk result (λ command. about_of command ≡ Some tree_about) }
+{
+    let tree = Command::new(alloc, "tree")
+        .arg(switch(alloc, "ascii", "Shows the nesting in characters of ASCII"))?
+        .arg(switch(alloc, "json", "Writes one JSON value in place of lines"))?
+        .arg(input_argument(alloc))?;
+    Ok(tree.about(
+        "Runs the script in FILE, and shows the namespace that it leaves in place of replies",
+    ))
+}
+
+// A switch of a subcommand.
+fn switch<'a>(alloc: Global, name: &'a str, help: &'a str) -> Arg<'a>
+    ensures rule { rule_of result ≡ switch_rule name.now }
+    ensures local { result.global ≡ false }
+    ensures help { text_of result.help ≡ Some help.now }
+{
+    Arg::new(alloc, name)
+        .long(name)
+        .action(ArgAction::SetTrue)
+        .help(help)
+}
+
+// The path that a subcommand may take.
+fn input_argument<'a>(alloc: Global) -> Arg<'a>
+    ensures rule { rule_of result ≡ input_rule }
+    ensures local { result.global ≡ false }
+    ensures help { text_of result.help ≡ Some input_help }
+{
+    Arg::new(alloc, "FILE").help("The path of the file, taken as it is; standard input without it")
 }
 
 // The path that a subcommand takes.

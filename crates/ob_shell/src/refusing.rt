@@ -12,12 +12,12 @@ use ob_output::{ShellFault, Unwritten, write_out};
 use std::alloc::Global;
 use std::io::Write;
 
-/// Tells the fault of the arguments, and how the program ends with it; and whether what standard error has to say was
+/// Reports the fault of the arguments; returns how the program ends with it, and whether its text on standard error was
 /// written whole.
 ///
 /// Out of memory, in the parser or for the text, is the fault `Memory`, reported on `errors`. Help or
-/// the version that was asked for goes to the writer; where it cannot be written, that is the fault
-/// `Write`. The text of any other fault, a mistake, goes to `errors`, and is the same end where it
+/// the version that was asked for is written to the writer; if it cannot be written, that is the fault
+/// `Write`. The text of any other fault, a mistake, is written to `errors`, and the end is the same if it
 /// cannot be written. (this profile)
 pub fn refuse<W: Write, E: Write>(
     alloc: Global,

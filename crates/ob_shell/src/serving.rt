@@ -16,14 +16,14 @@ use std::io::{BufRead, Read, Write};
 use std::sync::Wait;
 use std::thread::Threads;
 
-/// Does what the arguments ask for, and tells how the program ends, and whether what standard error has to say was
+/// Does the task that the arguments name; returns how the program ends, and whether its text on standard error was
 /// written whole. The first argument is the program's name.
 ///
-/// Where the arguments name a task and have no fault, it is done: `Script` and `Session` over the reader, and `Run`,
-/// `Threads`, `Replay` and `Check` over the file that `opener` gives for their path. Nothing else is opened: `opener` need only be
+/// Where the arguments name a task and have no fault, it is done: `Script`, `Session` and `Tree` without a path over the reader, and `Run`,
+/// `Threads`, `Replay`, `Check` and `Tree` over the file that `opener` gives for their path. Nothing else is opened: `opener` need only be
 /// callable at the path that the arguments name, and is called for no script on standard input. A file
-/// that could not be opened is told as `perform_opened` says. A fault of the arguments is told instead,
-/// and out of memory before there was a task. (this profile)
+/// that could not be opened is reported as `perform_opened` says. A fault of the arguments is reported in place of a task,
+/// and so is out of memory before there was a task. (this profile)
 pub fn serve<
     'a,
     H: Threads + Wait + Sync,
@@ -51,9 +51,18 @@ pub fn serve<
     match plan(alloc, arguments) {
         Ok(task) => {
             let (outcome, told) = match task {
-                Task::Script => perform(rt, alloc, task, reader, writer, errors),
+                Task::Script | Task::Tree { file: None, .. } => {
+                    perform(rt, alloc, task, reader, writer, errors)
+                }
                 Task::Session => converse(alloc, reader, writer, errors),
-                Task::Run(file) | Task::Threads(file) | Task::Replay(file) | Task::Check(file) => {
+                Task::Run(file)
+                | Task::Threads(file)
+                | Task::Replay(file)
+                | Task::Check(file)
+                | Task::Tree {
+                    file: Some(file),
+                    ..
+                } => {
                     let opened = opener(file);
                     perform_opened(rt, alloc, task, opened, writer, errors)
                 }

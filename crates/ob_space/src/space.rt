@@ -1,6 +1,6 @@
 //! The parts of a namespace, and what can be read off them.
 
-ghost use Rattle.std.specs.Prelude.{◌≡◌, ◌||◌, nat_lt, length};
+ghost use Rattle.std.specs.Prelude.{◌≡◌, ◌||◌, nat_lt, length, IfOk};
 ghost use Rattle.std.specs.Option.{option_and_then};
 ghost use Rattle.ob_base.specs.Handle.{key_of};
 ghost use Rattle.ob_model.specs.State.{is_live, held_of, is_store_full, greatest_number};
@@ -14,8 +14,8 @@ use ob_handles::{HandleTable, MOST_HANDLES};
 use ob_lookup::CachedStore;
 use ob_model::Held;
 use ob_processes::{PendingOpens, Processes};
-use ob_types::TypeSet;
-use std::alloc::Global;
+use ob_types::{Copied, TypeSet};
+use std::alloc::{AllocError, Global};
 use std::marker::Model;
 
 /// The id of the root directory, which `\` names. It is there in every orderly state.
@@ -80,6 +80,29 @@ impl<T: TypeSet, H: HandleTable> Model for Space<T, H> {
       next_process = a.next_process;
       next_order = a.next_order;
     } };
+}
+
+impl<T: TypeSet + Copied, H: HandleTable> Space<T, H>
+where
+    T::Inner: Copied,
+{
+    /// Another namespace in the same state. It takes a time that grows with all that is in it. The only error is out of
+    /// memory. (this profile)
+    pub fn copy(&self) -> Result<Space<T, H>, AllocError>
+        ensures { IfOk result (λ copy. copy ≡ self.now) }
+    {
+        Ok(Space {
+            alloc: self.alloc,
+            set: self.set.copied()?,
+            store: self.store.copy(self.alloc)?,
+            processes: self.processes.copy()?,
+            pending: self.pending.copy(self.alloc)?,
+            next_id: self.next_id,
+            next_stamp: self.next_stamp,
+            next_process: self.next_process,
+            next_order: self.next_order,
+        })
+    }
 }
 
 /// Whether a process is live.

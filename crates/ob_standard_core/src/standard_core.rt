@@ -14,6 +14,8 @@ ghost use Rattle.ob_runner.specs.Completes.{Made, Completes, Falters};
 ghost use Rattle.ob_space.specs.Early.{TakesNoMemory};
 ghost use Rattle.ob_standard.specs.Standard.{IsFresh, StandardKind, Standard as StandardSet, standard};
 ghost use Rattle.ob_standard_core.specs.Machine.{counts_of};
+ghost use Rattle.ob_survey.specs.Surveying.{survey_of};
+ghost use Rattle.ob_tree.specs.Index.{Rise};
 
 use ob_base::{Handle, Proc};
 use ob_core::Cache;
@@ -21,6 +23,8 @@ use ob_model::{Command, Reply};
 use ob_output::Totals;
 use ob_runner::{Core, SlabTable, run_command};
 use ob_standard::{Standard, StandardKind};
+use ob_survey::survey;
+use ob_tree::Survey;
 use std::alloc::{AllocError, Global};
 use std::marker::Model;
 
@@ -95,6 +99,14 @@ impl StandardCore {
             closes: set.closes(),
             deletes: set.deletes(),
         }
+    }
+
+    /// What a tree shows of the namespace as it is. The only error is out of memory. (this profile)
+    pub fn survey(&self, alloc: Global) -> Result<Survey, AllocError>
+        ensures seen { IfOk result (λ survey. survey ≡ survey_of standard self.now) }
+        ensures rise { IfOk result (λ survey. Rise survey.objects) }
+    {
+        survey(alloc, &self.core)
     }
 
     /// Whether a process has a handle of exactly this value; the low two bits count. Takes no memory.

@@ -36,10 +36,8 @@ use Rattle.ob_standard.proofs.set.Standard.TheSendSync as standards
 use Rattle.ob_handles.specs.contracts.slab_table.SlabTable as table
 use Rattle.ob_handles.specs.contracts.slab_table.SlabTableHandleTable.TheImpl as handles
 use Rattle.ob_handles.proofs.slab_table.SlabTable.TheSendSync as tables
-use Rattle.std.specs.Prelude.{◌≡◌}
-use Rattle.ob_base.specs.declared.Fault.TheVariants.{Refused}
-use Rattle.ob_base.specs.declared.status.Status.TheVariants.{InvalidParameter}
-use Rattle.ob_shared.specs.declared.publishing.Publishing as Publishing
+use Rattle.std.specs.Prelude.{[]}
+use Rattle.ob_published.specs.declared.publishing.Publishing as Publishing
 use Rattle.ob_shared.proofs.Lent.{shared_sync}
 use Rattle.ob_threads.specs.contracts.lent.Lent as lent
 
@@ -79,8 +77,8 @@ equal = either_equal.ghosts plain_kind.the_row (either.the_row device_kind.the_r
     (either_equal.ghosts device_kind.the_row key_kind.the_row device_equal.ghosts either_equal.no_dict key_equal.ghosts either_equal.no_dict) either_equal.no_dict
 
 -- nothing is published
-abbrev nothing : Publishing.Ghosts unit.Denot (standard.the_row).Denot unit.Denot kind.Denot face.Denot inner.Denot
-nothing = record { keeps = λ publisher h. Unit {0}; shows = λ publisher published h. ⊥; faults = λ fault. fault ≡ Refused InvalidParameter }
+abbrev nothing : Publishing.Ghosts unit.Denot unit.Denot
+nothing = record { publishes = ⊥; opening = []; leads = λ publications. Unit {0}; recorded = λ publisher. []; shown = λ publisher. []; known = λ published. [] }
 
 module _ (a : NamedLft) (H L : RattleType) (l : Ledger.Ghosts L.Denot) where
   pub lent_sync : IsSync H → IsSync (lent.the_row a H L l)

@@ -14,7 +14,7 @@ use Rattle.ob_threads.specs.declared.ends.ThreadsEnding.TheVariants as ending
 abbrev pub SeatOutcome : Type 0
 SeatOutcome = Result (Unit {0}) Stopped
 
--- a lack of memory is reported before a refusal, and of the same kind the least line
+-- out of memory is reported before a refusal, and of the same kind the least line
 abbrev pub is_told_first : Stop → Stop → ℕ → ℕ → Bool
 is_told_first Memory Refused line line' = true
 is_told_first Refused Memory line line' = false

@@ -47,7 +47,7 @@ pub record AreNotBegun {P : Type 0} (gives : P → Fault → Type 0) (before : P
   pub let_go : AreLetGo left given_up
   pub idle : All (λ entries. entries ≡ []) theirs
 
--- Seat 0 plays its lines before the workers. Each worker runs its own, beginning with the variables that seat 0 then has, and seat 0 goes on with the lines
+-- Seat 0 plays its lines before the workers. Each worker runs its own, beginning with the variables that seat 0 then has, and seat 0 continues with the lines
 -- after the workers. Of the ends of both one is reported.
 pub record AreBegun (known : Fault → Type 0) (script : WorkerScript) (begun : Entries) (theirs : List Entries) (rest : Entries) (ended : SeatOutcome) : Type 0 where
   pub variables : Variables

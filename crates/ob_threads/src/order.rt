@@ -15,7 +15,7 @@ use std::sync::Arc;
 pub(crate) enum Order {
     /// So many of seat 0 are to come, and then those of the workers.
     Begun(usize),
-    /// Seat 0 went on after the join: all that are to come are its own.
+    /// Seat 0 has continued after the join: all that are to come are its own.
     Joined,
     /// One came out of turn.
     Broken,

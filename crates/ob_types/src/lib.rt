@@ -13,6 +13,7 @@
 mod answer;
 mod asked;
 mod both;
+mod copied;
 mod drains;
 pub mod laws;
 mod parsed;
@@ -25,6 +26,7 @@ mod uses;
 
 pub use answer::ParseAnswer;
 pub use both::{Both, calls_go_to_their_part};
+pub use copied::Copied;
 pub use drains::{
     Drains, unnoticed_changes_leave_runs, unnoticed_changes_leave_steps, what_is_taken_is_unnoticed,
 };

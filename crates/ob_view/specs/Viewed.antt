@@ -9,3 +9,7 @@ use Rattle.ob_rows.specs.Rows.{found_among}
 -- the object that the component finds among these rows
 abbrev pub object_among : List Row → ℕ → List ℕ → Bool → Option ℕ
 object_among rows directory component fold = option_map (λ row. row.object) (found_among rows directory component fold)
+
+-- the most viewers of a namespace
+abbrev pub most_viewers : ℕ
+most_viewers = 16

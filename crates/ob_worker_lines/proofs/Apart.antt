@@ -5,10 +5,10 @@ use Rattle.ob_lines.specs.declared.request.Request.{Request}
 use Rattle.ob_lines.specs.declared.pending.PendingForm.{PendingForm}
 use Rattle.ob_lines.specs.declared.form.Form.TheVariants.{Nothing, Asks, Waits}
 use Rattle.ob_lines.specs.Grammar.{IsLine}
-use Rattle.ob_lines.proofs.Formed.{no_form}
+use Rattle.ob_lines.proofs.LineForms.{no_form}
 use Rattle.ob_parts.specs.Text.{Lacks}
 use Rattle.ob_parts.proofs.Flagged.{lacks_from_test}
-use Rattle.ob_parts.proofs.Parted.{differ}
+use Rattle.ob_parts.proofs.Readings.{differ}
 use Rattle.ob_parts.proofs.Processed.{process_uncut}
 use Rattle.ob_worker_lines.specs.Cuts.{Lines, thread_line, join_line, seal_line, IsScriptLine, IsSeatLine, IsStopped, worker_lines, IsEnd}
 use Rattle.ob_worker_lines.specs.Forms.{SealIsNoScriptLine}

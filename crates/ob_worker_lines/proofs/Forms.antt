@@ -2,7 +2,7 @@
 use Rattle.std.proofs.Common.{◌≡◌, inl, inr, ℕ, Bool, true, false, cond, eqb, List, [], ◌∷◌, map, Some, refl, sym, ap, subst, ◌∙◌}
 use Rattle.ob_lines.specs.Grammar.{IsLine}
 use Rattle.ob_lines.specs.Lines.{line_end, lines_of, onto_first_line}
-use Rattle.ob_lines.proofs.Formed.{line_alike}
+use Rattle.ob_lines.proofs.LineForms.{line_alike}
 use Rattle.ob_worker_lines.specs.declared.form.SeatForm.{SeatForm}
 use Rattle.ob_worker_lines.specs.declared.form.SeatForm.TheVariants.{Seal, Line}
 use Rattle.ob_worker_lines.specs.Cuts.{Lines, IsSeatLine, AreSeatLines}

@@ -7,7 +7,7 @@ use core::ffi::c_char;
 /// An NTSTATUS. Those with 0xE in front are this library's own.
 pub type ntns_status = u32;
 
-/// A namespace: all zeros before it is opened and after it is closed. It may be moved between calls, and isn't copied.
+/// A namespace: all zeros before it is opened and after it is closed. It may be moved between calls; ntns_copy makes another.
 #[repr(C)]
 #[derive(Debug, Default)]
 pub struct ntns {
@@ -128,6 +128,7 @@ pub const NTNS_TYPE_WMI_GUID: u32 = 38;
 #[rustfmt::skip]
 unsafe extern "C" {
     pub fn ntns_open(ns: *mut ntns) -> ntns_status;
+    pub fn ntns_copy(from: *const ntns, to: *mut ntns) -> ntns_status;
     pub fn ntns_close(ns: *mut ntns);
     pub fn ntns_create_directory(ns: *mut ntns, process: u32, root: u32, name: *const c_char, name_len: usize, attributes: u32, handle: *mut u32) -> ntns_status;
     pub fn ntns_create_shadowed(ns: *mut ntns, process: u32, root: u32, name: *const c_char, name_len: usize, attributes: u32, shadow: u32, handle: *mut u32) -> ntns_status;

@@ -149,6 +149,13 @@ impl Namespace {
         Ok(namespace)
     }
 
+    /// Another namespace in the same state, pending opens and untaken deletions included. Neither changes the other afterwards. The error is `NO_MEMORY`.
+    pub fn copy(&self) -> Result<Self, Status> {
+        let copy = Self { space: UnsafeCell::new(raw::ntns::default()) };
+        self.call(|space| unsafe { raw::ntns_copy(space, copy.space.get()) })?;
+        Ok(copy)
+    }
+
     /// The process with this number; 1 is there from the start.
     pub fn process(&self, number: u32) -> Process<'_> {
         Process { namespace: self, number }

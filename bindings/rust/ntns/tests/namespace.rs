@@ -172,6 +172,24 @@ fn a_namespace_may_go_to_another_thread() -> Result<(), Status> {
 }
 
 #[test]
+fn a_copy_goes_its_own_way() -> Result<(), Status> {
+    let namespace = Namespace::open()?;
+    let system = namespace.process(1);
+    let disk = system.object(Type::DEVICE, 7).create(r"\Device\Disk")?;
+    system.object(Type::EVENT, 8).create_unnamed()?.close()?;
+    let copy = namespace.copy()?;
+    let copied = copy.process(1).adopt(disk.value());
+    assert_eq!((copied.query()?, copied.path()?), (disk.query()?, disk.path()?));
+    copied.close()?;
+    assert_eq!(copy.deletions().map(|deletion| deletion.user_data).collect::<Vec<_>>(), [8, 7]);
+    assert_eq!(namespace.deletions().map(|deletion| deletion.user_data).collect::<Vec<_>>(), [8]);
+    assert_eq!(disk.path()?, r"\Device\Disk");
+    drop(namespace.copy()?);
+    assert_eq!(copy.process(1).open(Type::DEVICE, r"\Device\Disk").unwrap_err(), Status::OBJECT_NAME_NOT_FOUND);
+    Ok(())
+}
+
+#[test]
 #[should_panic(expected = "another process")]
 fn a_handle_of_another_process_is_no_root() {
     let namespace = Namespace::open().unwrap();

@@ -1,5 +1,5 @@
--- Behind the process variable, of which there is one reading, the request is missing, and what is asked of an open that waits.
-use Rattle.ob_lines.proofs.Formed.{asks_rest, waits_rest}
+-- After the process variable, which has one reading, neither a request nor the end of a pending open follows.
+use Rattle.ob_lines.proofs.LineForms.{asks_rest, waits_rest}
 use Rattle.ob_lines.proofs.form.asking_of.Goals as goal
 
 pub returns-in_err-pending-clause-none : goal.returns-in_err-pending-clause-none

@@ -1,7 +1,7 @@
 -- A line that is neither idle nor a `stat` nor asks for something has no form.
 use Rattle.ob_parts.proofs.Cuts.{IfNone-map}
-use Rattle.ob_parts.proofs.Parted.{told_apart}
-use Rattle.ob_lines.proofs.Formed.{no_form}
+use Rattle.ob_parts.proofs.Readings.{told_apart}
+use Rattle.ob_lines.proofs.LineForms.{no_form}
 use Rattle.ob_lines.proofs.form.form_of.Goals as goal
 
 pub returns-clause-none : goal.returns-clause-none

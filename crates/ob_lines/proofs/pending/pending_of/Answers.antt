@@ -1,5 +1,5 @@
 -- What begins as a `begin` and goes on otherwise is none of the three.
-use Rattle.ob_lines.proofs.Formed.{begin_alone}
+use Rattle.ob_lines.proofs.LineForms.{begin_alone}
 use Rattle.ob_lines.proofs.pending.pending_of.Goals as goal
 
 pub returns-in_err-want-clause-none : goal.returns-in_err-want-clause-none

@@ -1,6 +1,6 @@
 -- Behind the place, of which there is one reading, the rest is missing.
 use Rattle.ob_parts.specs.Parts.{IsFlagsAndVariable}
-use Rattle.ob_parts.proofs.Parted.{moved, place_alike}
+use Rattle.ob_parts.proofs.Readings.{moved, place_alike}
 use Rattle.ob_lines.proofs.request.directory_of.Goals as goal
 
 pub returns-in_err-attrs-clause-none : goal.returns-in_err-attrs-clause-none

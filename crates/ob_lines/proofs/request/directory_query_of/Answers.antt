@@ -1,7 +1,7 @@
 -- Behind parts of which there is one reading the next one is missing.
 use Rattle.std.proofs.Common.{◌∙◌}
 use Rattle.ob_parts.specs.Parts.{BeginsWithRoom}
-use Rattle.ob_parts.proofs.Parted.{moved}
+use Rattle.ob_parts.proofs.Readings.{moved}
 use Rattle.ob_parts.proofs.Processed.{handle_first_alike}
 use Rattle.ob_parts.proofs.Paged.{room_alike}
 use Rattle.ob_lines.proofs.request.directory_query_of.Goals as goal

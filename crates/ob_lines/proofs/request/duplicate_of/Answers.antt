@@ -1,6 +1,6 @@
 -- Behind parts of which there is one reading the next one is missing.
 use Rattle.ob_parts.specs.Parts.{BeginsWithProcess, BeginsWithInherit, IsSetting}
-use Rattle.ob_parts.proofs.Parted.{moved}
+use Rattle.ob_parts.proofs.Readings.{moved}
 use Rattle.ob_parts.proofs.Processed.{handle_first_alike, process_alike, inherit_alike}
 use Rattle.ob_lines.proofs.request.duplicate_of.Goals as goal
 

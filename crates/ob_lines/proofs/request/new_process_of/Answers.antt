@@ -1,6 +1,6 @@
 -- Behind the inheritance, of which there is one reading, no process variable is set.
 use Rattle.ob_parts.specs.Parts.{SetsProcess}
-use Rattle.ob_parts.proofs.Parted.{moved}
+use Rattle.ob_parts.proofs.Readings.{moved}
 use Rattle.ob_parts.proofs.Processed.{inherit_alike}
 use Rattle.ob_lines.proofs.request.new_process_of.Goals as goal
 

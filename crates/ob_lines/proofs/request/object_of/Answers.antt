@@ -1,6 +1,6 @@
 -- Behind the kind, of which there is one reading, the rest is missing.
 use Rattle.ob_parts.specs.Parts.{IsPlaceFlagsTextAndVariable}
-use Rattle.ob_parts.proofs.Parted.{moved, kind_alike}
+use Rattle.ob_parts.proofs.Readings.{moved, kind_alike}
 use Rattle.ob_lines.proofs.request.object_of.Goals as goal
 
 pub returns-in_err-place-clause-none : goal.returns-in_err-place-clause-none

@@ -1,7 +1,7 @@
 -- What is no `exit` and no verb with operands is no request.
 use Rattle.ob_parts.proofs.Cuts.{IfNone-map}
-use Rattle.ob_parts.proofs.Parted.{told_apart}
-use Rattle.ob_lines.proofs.Formed.{no_exit}
+use Rattle.ob_parts.proofs.Readings.{told_apart}
+use Rattle.ob_lines.proofs.LineForms.{no_exit}
 use Rattle.ob_lines.proofs.request.request_of.Goals as goal
 
 pub returns-clause-none : goal.returns-clause-none

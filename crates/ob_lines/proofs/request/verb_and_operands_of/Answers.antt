@@ -2,7 +2,7 @@
 use Rattle.std.proofs.Common.{sym, ◌∙◌}
 use Rattle.ob_lines.specs.Grammar.{verb_of, request_seen}
 use Rattle.ob_parts.proofs.Cuts.{IfNone-map, IfSome-join}
-use Rattle.ob_lines.proofs.Formed.{request_parts, request_joined}
+use Rattle.ob_lines.proofs.LineForms.{request_parts, request_joined}
 use Rattle.ob_lines.proofs.Verbs.{verb_same}
 use Rattle.ob_lines.proofs.request.verb_and_operands_of.Goals as goal
 

@@ -1,4 +1,4 @@
-use Rattle.ob_lines.proofs.Formed.{found_has_texts}
+use Rattle.ob_lines.proofs.LineForms.{found_has_texts}
 use Rattle.ob_lines.proofs.script.read_line.Goals as goal
 
 pub returns-clause-texts : goal.returns-clause-texts

@@ -1,5 +1,5 @@
 -- A word that is no kind, and bytes without a space, begin with no kind.
-use Rattle.ob_parts.proofs.Parted.{kind_parts}
+use Rattle.ob_parts.proofs.Readings.{kind_parts}
 use Rattle.ob_parts.proofs.kind.take_kind.Goals as goal
 
 pub returns-in_err-kind-clause-none : goal.returns-in_err-kind-clause-none

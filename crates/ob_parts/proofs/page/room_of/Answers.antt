@@ -1,6 +1,6 @@
 -- A room is `0` alone, or begins with another digit.
 use Rattle.std.proofs.Common.{arith}
-use Rattle.ob_parts.proofs.Parted.{told_apart}
+use Rattle.ob_parts.proofs.Readings.{told_apart}
 use Rattle.ob_parts.proofs.Paged.{room_first, room_some, zero_room}
 use Rattle.ob_parts.proofs.page.room_of.Goals as goal
 

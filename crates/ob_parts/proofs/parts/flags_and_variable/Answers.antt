@@ -1,6 +1,6 @@
 -- Behind the flags, of which there is one reading, stands no variable that is set.
 use Rattle.ob_parts.specs.Parts.{IsSetting}
-use Rattle.ob_parts.proofs.Parted.{moved, flags_first_alike}
+use Rattle.ob_parts.proofs.Readings.{moved, flags_first_alike}
 use Rattle.ob_parts.proofs.parts.flags_and_variable.Goals as goal
 
 pub returns-in_err-attrs-clause-none : goal.returns-in_err-attrs-clause-none

@@ -1,6 +1,6 @@
 -- Behind parts of which there is one reading the next one is missing.
 use Rattle.ob_parts.specs.Parts.{BeginsWithText, IsSetting}
-use Rattle.ob_parts.proofs.Parted.{moved, text_alike, flags_first_alike}
+use Rattle.ob_parts.proofs.Readings.{moved, text_alike, flags_first_alike}
 use Rattle.ob_parts.proofs.parts.flags_text_and_variable.Goals as goal
 
 pub returns-in_err-attrs-clause-none : goal.returns-in_err-attrs-clause-none

@@ -1,6 +1,6 @@
 -- Behind the name, of which there is one reading, the rest is missing.
 use Rattle.ob_parts.specs.Parts.{IsFlagsAndVariable}
-use Rattle.ob_parts.proofs.Parted.{moved, name_alike}
+use Rattle.ob_parts.proofs.Readings.{moved, name_alike}
 use Rattle.ob_parts.proofs.parts.name_flags_and_variable.Goals as goal
 
 pub returns-in_err-attrs-clause-none : goal.returns-in_err-attrs-clause-none

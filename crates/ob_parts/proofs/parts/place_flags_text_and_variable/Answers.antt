@@ -1,6 +1,6 @@
 -- Behind the place, of which there is one reading, the rest is missing.
 use Rattle.ob_parts.specs.Parts.{IsFlagsTextAndVariable}
-use Rattle.ob_parts.proofs.Parted.{moved, place_alike}
+use Rattle.ob_parts.proofs.Readings.{moved, place_alike}
 use Rattle.ob_parts.proofs.parts.place_flags_text_and_variable.Goals as goal
 
 pub returns-in_err-attrs-clause-none : goal.returns-in_err-attrs-clause-none

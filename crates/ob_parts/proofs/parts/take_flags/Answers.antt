@@ -1,5 +1,5 @@
 -- Bytes that stand where flags do, and are none, begin with no flags.
-use Rattle.ob_parts.proofs.Parted.{flags_parts}
+use Rattle.ob_parts.proofs.Readings.{flags_parts}
 use Rattle.ob_parts.proofs.parts.take_flags.Goals as goal
 
 pub returns-in_err-attrs-clause-none : goal.returns-in_err-attrs-clause-none

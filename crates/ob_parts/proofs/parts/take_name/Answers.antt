@@ -1,5 +1,5 @@
 -- Where a cut fails, or what stands in front of the colon is no handle, the bytes begin with no name.
-use Rattle.ob_parts.proofs.Parted.{no_name, relative_parts}
+use Rattle.ob_parts.proofs.Readings.{no_name, relative_parts}
 use Rattle.ob_parts.proofs.parts.take_name.Goals as goal
 
 pub returns-in_err-root-clause-none : goal.returns-in_err-root-clause-none

@@ -1,6 +1,6 @@
 -- Where a cut fails, or what stands between the quotes is no text, the bytes begin with none.
 use Rattle.std.proofs.lemmas.Bool.{both_ways}
-use Rattle.ob_parts.proofs.Parted.{moved, text_parts, text_unclosed}
+use Rattle.ob_parts.proofs.Readings.{moved, text_parts, text_unclosed}
 use Rattle.ob_parts.specs.Text.{IsText}
 use Rattle.ob_parts.proofs.parts.take_text.Goals as goal
 

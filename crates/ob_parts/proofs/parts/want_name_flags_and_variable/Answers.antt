@@ -1,6 +1,6 @@
 -- Behind what is wanted, of which there is one reading, the rest is missing.
 use Rattle.ob_parts.specs.Parts.{IsNameFlagsAndVariable}
-use Rattle.ob_parts.proofs.Parted.{moved, want_alike}
+use Rattle.ob_parts.proofs.Readings.{moved, want_alike}
 use Rattle.ob_parts.proofs.parts.want_name_flags_and_variable.Goals as goal
 
 pub returns-in_err-name-clause-none : goal.returns-in_err-name-clause-none

@@ -1,7 +1,7 @@
 -- Bytes that stand where a process variable does, and are none, begin with no process variable.
 use Rattle.std.proofs.lemmas.Bool.{both_ways}
 use Rattle.ob_parts.specs.Text.{IsProcessVariable}
-use Rattle.ob_parts.proofs.Parted.{moved}
+use Rattle.ob_parts.proofs.Readings.{moved}
 use Rattle.ob_parts.proofs.Processed.{process_parts}
 use Rattle.ob_parts.proofs.process.take_process.Goals as goal
 

@@ -3,7 +3,7 @@ use Rattle.std.proofs.Common.{refl}
 use Rattle.ob_lines.specs.Script.{found_seen}
 use Rattle.ob_lines.specs.declared.form.Form.TheVariants.{Nothing}
 use Rattle.std.specs.Prelude.{Some}
-use Rattle.ob_lines.proofs.Formed.{found_has_texts, has_form}
+use Rattle.ob_lines.proofs.LineForms.{found_has_texts, has_form}
 use Rattle.ob_scripts.proofs.run.perform_line.Goals as goal
 
 pub perform-requires : goal.perform-requires

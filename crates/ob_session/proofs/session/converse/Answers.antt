@@ -1,5 +1,5 @@
 -- One more line is taken and answered, or the session ends.
-use Rattle.std.proofs.Common.{◌-◌, refl, arith, rules}
+use Rattle.std.proofs.Common.{refl, arith, rules}
 use Rattle.ob_effects.specs.Kept.{space_of, variables_of}
 use Rattle.ob_session.specs.Session.{IsConversationCut}
 use Rattle.ob_session.proofs.Talks.{come_on, come_cut, come_long}

@@ -1,8 +1,8 @@
-use Rattle.std.proofs.Common.{map}
+use Rattle.std.proofs.Common.{map, ap, sym, ◌∙◌}
 use Rattle.clap.specs.Words.{subcommand_rows_of}
 use Rattle.ob_shell.proofs.Faults.{faultless_as_stated, kinds_as_stated, some_task, task_is_spelled, used_as_stated}
 use Rattle.ob_shell.proofs.Arguments.{takes_alone, takes_as_stated}
-use Rattle.ob_shell.specs.Plan.{named}
+use Rattle.ob_shell.specs.Plan.{named, task_of}
 use Rattle.ob_shell.proofs.planning.plan.Goals as goal
 
 pub unreachable-requires : goal.unreachable-requires
@@ -27,3 +27,7 @@ returns-in-Err-try_get_matches_from-clause-kinds g c = kinds_as_stated _ _ c.in-
 
 pub returns-in-Some-clause-kinds : goal.returns-in-Some-clause-kinds
 returns-in-Some-clause-kinds g c = faultless_as_stated _ _ c.in-Ok.ensures.app c.in-Ok-try_get_matches_from.ensures.kinds
+
+pub returns-in-Some-clause-task : goal.returns-in-Some-clause-task
+returns-in-Some-clause-task g c =
+    ap task_of (sym (used_as_stated _ _ _ c.in-Ok.ensures.app c.in-Ok-try_get_matches_from.ensures.matches)) ∙ sym c.in-Some.ensures

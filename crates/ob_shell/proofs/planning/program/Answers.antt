@@ -21,8 +21,9 @@ returns-clause-app c =
     let threads = added _ _ _ _ _ c.in_ok-subcommand-2.ensures run c.in_ok-threads.ensures.app c.in_ok-threads.ensures.local in
     let replay = added _ _ _ _ _ c.in_ok-subcommand-3.ensures threads c.in_ok-replay.ensures.app c.in_ok-replay.ensures.local in
     let check = added _ _ _ _ _ c.in_ok-subcommand-4.ensures replay c.in_ok-check.ensures.app c.in_ok-check.ensures.local in
-    let session = added _ _ _ _ _ c.in_ok-program.ensures check c.session_command-session.ensures.app c.session_command-session.ensures.local in
-    ap app_of_fields c.after_help.ensures ∙ (ap app_of_fields c.version.ensures ∙ ap with_version (ap app_of_fields c.about.ensures ∙ session))
+    let session = added _ _ _ _ _ c.in_ok-subcommand-5.ensures check c.session_command-session.ensures.app c.session_command-session.ensures.local in
+    let tree = added _ _ _ _ _ c.in_ok-program.ensures session c.in_ok-tree.ensures.app c.in_ok-tree.ensures.local in
+    ap app_of_fields c.after_help.ensures ∙ (ap app_of_fields c.version.ensures ∙ ap with_version (ap app_of_fields c.about.ensures ∙ tree))
 
 pub returns-clause-examples : goal.returns-clause-examples
 returns-clause-examples c = ap (λ (fields : Command-F Command). text_of fields.after_help) c.after_help.ensures

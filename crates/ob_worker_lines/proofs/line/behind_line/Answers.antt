@@ -2,7 +2,7 @@
 use Rattle.std.proofs.Common.{◌≡◌, ℕ, List, ◌∷◌, refl, sym, ap, ◌∙◌}
 use Rattle.std.proofs.lemmas.Slice.Eq.{bytes_eq-Decides}
 use Rattle.ob_lines.specs.Lines.{lines_of}
-use Rattle.ob_parts.proofs.Parted.{told_apart}
+use Rattle.ob_parts.proofs.Readings.{told_apart}
 use Rattle.ob_worker_lines.proofs.Whole.{lines_of-first}
 use Rattle.ob_worker_lines.proofs.line.behind_line.Goals as goal
 

@@ -1,4 +1,4 @@
--- What is listed leads on twice.
+-- The rows that were listed lead from the old state to the new one, for both halves of the pass.
 use Rattle.ob_mirror.proofs.Leading.{leads_on}
 use Rattle.ob_mirror.proofs.mirror.Mirror.follow.Goals as goal
 

@@ -1,4 +1,4 @@
--- The next id is the mirror's own.
+-- The next id is that of the mirror.
 use Rattle.std.proofs.Common.{ap, subst}
 use Rattle.ob_objects.specs.Named.{IsFirstFrom}
 use Rattle.ob_mirror.specs.Mirrored.{Mirrored}

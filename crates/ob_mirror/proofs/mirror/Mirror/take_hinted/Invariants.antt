@@ -1,4 +1,4 @@
--- What is left follows still.
+-- After one more lost row the mirror still follows the core.
 use Rattle.std.proofs.Common.{◌≡◌}
 use Rattle.ob_mirror.specs.Mirrored.{Follows, LeadsOn}
 use Rattle.ob_mirror.proofs.mirror.Mirror.take_hinted.Given as goal

@@ -1,4 +1,4 @@
--- The stamps are those of all rows, and what is left of these are the state's.
+-- The list has every row's stamp, so each row that remains is one of the state's.
 use Rattle.std.proofs.Common.{◌<◌, ℕ, List, All, Contains, ap, subst, sym}
 use Rattle.ob_model.specs.declared.state.Row.{Row}
 use Rattle.ob_mirror.specs.Mirrored.{Mirrored}

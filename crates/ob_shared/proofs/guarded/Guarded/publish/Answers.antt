@@ -1,17 +1,15 @@
--- The pass is a stranger's, or the publisher published what is there, or had a fault.
-use Rattle.ob_shared.proofs.Onward.{known_unpublished, published_known, stranger_unpublished}
+-- The pass is a stranger's, nothing is published here, or memory ran out.
+use Rattle.ob_shared.proofs.Onward.{memory_unpublished, never_unpublished, stranger_unpublished}
+use Rattle.ob_shared.proofs.guarded.Guarded.publish.Goals.{then-not-is_known-via-then-not-is_known, then-not-is_known-via-else-not-is_known+then-not-is_publishing}
 use Rattle.ob_shared.proofs.guarded.Guarded.publish.Goals as goal
 
 pub returns-then-not-is_known-clause-fault : goal.returns-then-not-is_known-clause-fault
 returns-then-not-is_known-clause-fault g c =
-    stranger_unpublished g.T.TypeSet.procedures c.self.inside.locked c.is_kept.ensures.run c.journal.result.now.journal c.journal.ensures c.args.pass.now c.is_known.result c.is_known.ensures _ c.if-not-is_known.true
+    elim c.then-not-is_known.branch [
+      | then-not-is_known-via-then-not-is_known w ↦ stranger_unpublished g.T.TypeSet.procedures c.self.inside.locked c.is_kept.ensures.run c.journal.result.now.journal c.journal.ensures c.args.pass.now g.P.Publishing.publishes c.is_known.result c.is_known.ensures w.if-not-is_known.true
+      | then-not-is_known-via-else-not-is_known+then-not-is_publishing w ↦ never_unpublished g.T.TypeSet.procedures c.self.inside.locked c.is_kept.ensures.run c.journal.result.now.journal c.journal.ensures c.args.pass.now g.P.Publishing.publishes c.is_known.result c.is_known.ensures (w.is_publishing.ensures.no w.if-not-is_publishing.true)
+    ]
 
-pub returns-clause-published : goal.returns-clause-published
-returns-clause-published g c =
-    published_known g.T.TypeSet.procedures c.self.inside.locked c.is_kept.ensures.run c.journal.result.now.journal c.journal.ensures c.args.pass.now c.is_known.result c.is_known.ensures
-    c.publish.result c.publish.new.self g.P.Publishing.shows c.if-not-is_known.false c.publish.ensures.published
-
-pub returns-clause-fault : goal.returns-clause-fault
-returns-clause-fault g c =
-    known_unpublished g.T.TypeSet.procedures c.self.inside.locked c.is_kept.ensures.run c.journal.result.now.journal c.journal.ensures c.args.pass.now c.is_known.result c.is_known.ensures
-    c.publish.result g.P.Publishing.faults c.if-not-is_known.false c.publish.ensures.fault
+pub returns-in-Err-clause-fault : goal.returns-in-Err-clause-fault
+returns-in-Err-clause-fault g c =
+    memory_unpublished g.T.TypeSet.procedures c.self.inside.locked c.is_kept.ensures.run c.journal.result.now.journal c.journal.ensures c.args.pass.now g.P.Publishing.publishes c.is_known.result c.is_known.ensures (c.is_publishing.ensures.yes c.if-not-is_publishing.false) c.if-not-is_known.false
