@@ -3,7 +3,7 @@
 ghost use Rattle.std.specs.Prelude.{◌≡◌};
 ghost use Rattle.ob_base.specs.Status.{code_of, text_of, CodesTellStatuses, TextsTellStatuses};
 
-/// What a step answers: one of the NTSTATUS values that the namespace uses, or a status of its own.
+/// The answer of a step: one of the NTSTATUS values that the namespace uses, or a status of its own.
 ///
 /// Numbers and words up to `NameTooLong` are those of the Windows Driver Kit's "NTSTATUS values";
 /// the others are this profile's, and their numbers have bit 29 set, which NTSTATUS leaves to its

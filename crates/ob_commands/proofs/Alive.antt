@@ -1,17 +1,14 @@
 -- What stays in one state stays in another one, where what stays by itself does so there too, and the shadows are those.
 use Rattle.std.proofs.Common.{◌≡◌, ◌∙◌, ℕ, ◌||◌, ◌&&◌, Bool, true, false, get_or, ap, refl}
+use Rattle.std.proofs.lemmas.Bool.{or_right}
 use Rattle.ob_model.specs.State.{State}
 use Rattle.ob_model.specs.Settle.{has_shadow, is_alive_itself, is_shadowing, is_alive}
 use Rattle.ob_model.proofs.Finds.{list_any_weaker}
 use Rattle.ob_model.proofs.Staying.{KeepShadows}
 
-pub or_true : (b : Bool) → (b || true) ≡ true
-or_true true = refl
-or_true false = refl
-
 pub imply_or : (a b c d : Bool) → (a ≡ true → b ≡ true) → (c ≡ true → d ≡ true) → (a || c) ≡ true → (b || d) ≡ true
 imply_or true b c d first second h = ap (λ x. x || d) (first refl)
-imply_or false b c d first second h = ap (λ x. b || x) (second h) ∙ or_true b
+imply_or false b c d first second h = ap (λ x. b || x) (second h) ∙ or_right b true refl
 
 imply_and : (a b c : Bool) → (b ≡ true → c ≡ true) → (a && b) ≡ true → (a && c) ≡ true
 imply_and true b c more e = more e

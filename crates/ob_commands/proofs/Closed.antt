@@ -3,7 +3,7 @@ use Rattle.std.proofs.Common.{◌≡◌, ℕ, ◌==◌, true, false, ◌&&◌, �
 use Rattle.std.specs.Prelude.{Option, Some, None, option_map}
 use Rattle.std.specs.List.{list_any}
 use Rattle.std.specs.Option.{option_and_then, option_map_or}
-use Rattle.std.proofs.lemmas.Bool.{false≢true}
+use Rattle.std.proofs.lemmas.Bool.{false≢true, and_parts, or_right}
 use Rattle.std.proofs.lemmas.List.Elements.{All-map}
 use Rattle.std.proofs.lemmas.List.Folds.{list_any-append}
 use Rattle.ob_model.specs.declared.state.Held.{Held}
@@ -22,15 +22,11 @@ use Rattle.ob_life.proofs.HandleClosed.{held_alone}
 use Rattle.ob_space.proofs.Handles.{found_passes}
 use Rattle.ob_space.proofs.Orders.{any_stays}
 
-both_true : (a b : Bool) → (a && b) ≡ true → (a ≡ true) × (b ≡ true)
-both_true true b h = (refl, h)
-both_true false b h = cc
-
 -- a handle that a process names is found under its own process and value
 pub found_itself : {K T F I : Type 0} (s : State K T F I) (p : ℕ) (key : Option ℕ) (h : Held) → option_and_then (held_of s p) key ≡ Some h → held_of s h.process h.value ≡ Some h
 found_itself s p None h e = cc
 found_itself s p (Some value) h e =
-    let both = both_true (h.process == p) (h.value == value) (found_passes (is_handle p value) s.handles h e) in
+    let both = and_parts (h.process == p) (h.value == value) (found_passes (is_handle p value) s.handles h e) in
     (λ i. held_of s (eqb-true h.process p both.0 i) (eqb-true h.value value both.1 i)) ∙ e
 
 -- what is found is there
@@ -38,13 +34,9 @@ some_found : {X : Type 0} (test other : X → Bool) (xs : List X) (x : X) → fi
 some_found test other [] x e passes = cc
 some_found test other (y ∷ ys) x e passes = go (test y) e (λ f. some_found test other ys x f passes)
   where
-    or_true : (b : Bool) → (b || true) ≡ true
-    or_true true = refl
-    or_true false = refl
-
     go : (b : Bool) → cond b (Some y) (find test ys) ≡ Some x → (find test ys ≡ Some x → list_any other ys ≡ true) → (other y || list_any other ys) ≡ true
     go true e rest = let same : y ≡ x = cc in ap (λ b. b || list_any other ys) (ap other same ∙ passes)
-    go false e rest = ap (λ b. other y || b) (rest e) ∙ or_true (other y)
+    go false e rest = ap (λ b. other y || b) (rest e) ∙ or_right (other y) true refl
 
 or_none : (b : Bool) → (b || false) ≡ b
 or_none true = refl
@@ -63,16 +55,12 @@ module _ {K T F I : Type 0} (g : Procedures K T F I) (s : State K T F I) (h : He
       left : List Held
       left = filter (λ k. not (is_handle h.process h.value k)) s.handles
 
-      or_true : (b : Bool) → (b || (true || false)) ≡ true
-      or_true true = refl
-      or_true false = refl
-
       not_true : (b : Bool) → (b ≡ true → ⊥) → not b ≡ true
       not_true true never = absurd (never refl)
       not_true false never = refl
 
       go : (b : Bool) → (h.object == o) ≡ b → (list_any (λ x. x.object == o) (filter (λ k. not (is_handle h.process h.value k)) s.handles) || (b || false)) ≡ has_handle s o
-      go true e = or_true (list_any (λ x. x.object == o) left) ∙ sym (some_found (is_handle h.process h.value) (λ x. x.object == o) s.handles h held e)
+      go true e = or_right (list_any (λ x. x.object == o) left) true refl ∙ sym (some_found (is_handle h.process h.value) (λ x. x.object == o) s.handles h held e)
       go false e =
           or_none (list_any (λ x. x.object == o) left)
           ∙ any_stays (λ x. x.object == o) (λ k. not (is_handle h.process h.value k)) s.handles

@@ -3,7 +3,7 @@ use Rattle.std.proofs.Common.{◌≡◌, ◌∙◌, ℕ, suc, ◌<◌, ◌≤◌
 use Rattle.std.specs.Prelude.{Option, None, Some, option_map, MatchOption}
 use Rattle.std.specs.List.{list_any, AllPairs}
 use Rattle.std.specs.Option.{option_and_then, option_map_or}
-use Rattle.std.proofs.lemmas.Bool.{ne_eqb}
+use Rattle.std.proofs.lemmas.Bool.{ne_eqb, or_right}
 use Rattle.std.proofs.lemmas.List.Elements.{All-map}
 use Rattle.std.proofs.lemmas.List.Folds.{list_any-append}
 use Rattle.ob_base.specs.Handle.{key_of}
@@ -25,7 +25,7 @@ use Rattle.ob_processes.specs.Running.{Running}
 use Rattle.ob_space.specs.Namespace.{Parts, state_of}
 use Rattle.ob_space.specs.Orderly.{IsOrderly}
 use Rattle.ob_life.specs.Settling.{with_handle_to}
-use Rattle.ob_commands.proofs.Alive.{or_true, imply_or, alive_too}
+use Rattle.ob_commands.proofs.Alive.{imply_or, alive_too}
 use Rattle.ob_space.proofs.Stepping.{is_done}
 
 -- ---- lists of processes
@@ -66,7 +66,7 @@ map_stays p o d (x ∷ ps) rising other some =
         ap (λ b. (d == o) || b)
         (rest (ap (λ (f : Option Process). option_map_or (λ n. n == o) (option_and_then (λ y. y.map) f) false) (none_behind p x ps rising (eqb-true x.number p e)))
         (sym (ap (λ b. b || list_any (has_map o) ps) old) ∙ any))
-        ∙ or_true (d == o)
+        ∙ or_right (d == o) true refl
     go false e old any rest = either (has_map o x) any
       where
         either : (b : Bool) → (b || list_any (has_map o) ps) ≡ true → (b || list_any (has_map o) (map (with_own_map p (Some d)) ps)) ≡ true
@@ -132,7 +132,7 @@ module _ {K T F I : Type 0} (s : State K T F I) (p d : ℕ) where
       held_still o held = list_any-append (λ (h : Held). h.object == o) s.handles _ ∙ ap (λ b. b || ((m == o) || false)) held
 
       held_itself : (o : ℕ) → (m == o) ≡ true → has_handle u o ≡ true
-      held_itself o same = list_any-append (λ (h : Held). h.object == o) s.handles _ ∙ ap (λ b. has_handle s o || (b || false)) same ∙ or_true (has_handle s o)
+      held_itself o same = list_any-append (λ (h : Held). h.object == o) s.handles _ ∙ ap (λ b. has_handle s o || (b || false)) same ∙ or_right (has_handle s o) true refl
 
       kept_still : (r : Row) → is_kept s r ≡ true → is_kept u r ≡ true
       kept_still r = imply_or (is_permanent s r.object) (is_permanent s r.object) _ _ (λ h. h) (held_still r.object)
@@ -153,7 +153,7 @@ module _ {K T F I : Type 0} (s : State K T F I) (p d : ℕ) where
           go : (b : Bool) → (m == o) ≡ b → is_alive_itself u o ≡ true
           go true same =
               ap (λ b. (o == root_id) || b || is_pinned u o || is_mapped u o || (is_permanent u o && has_name u o) || holds_kept u o) (held_itself o same)
-              ∙ ap (λ b. b || is_pinned u o || is_mapped u o || (is_permanent u o && has_name u o) || holds_kept u o) (or_true (o == root_id))
+              ∙ ap (λ b. b || is_pinned u o || is_mapped u o || (is_permanent u o && has_name u o) || holds_kept u o) (or_right (o == root_id) true refl)
           go false other =
               imply_or ((o == root_id) || has_handle s o || is_pinned s o || is_mapped s o || (is_permanent s o && has_name s o))
               ((o == root_id) || has_handle u o || is_pinned s o || is_mapped u o || (is_permanent s o && has_name s o)) (holds_kept s o) (holds_kept u o)

@@ -6,7 +6,7 @@ use Rattle.ob_model.specs.State.{State}
 use Rattle.ob_model.specs.Procedures.{Procedures}
 use Rattle.ob_model.specs.Run.{Entry, Run, RunFrom}
 
--- What a state keeps of the names of an earlier one. Ids and stamps were drawn since; the rows rise by the ids of their
+-- The names of an earlier state that a state keeps. Ids and stamps were drawn since; the rows rise by the ids of their
 -- objects, and all their ids and stamps were drawn; and each row is one of the earlier state's, or its id and its stamp
 -- were drawn since.
 pub record KeepsNames {K T F I : Type 0} (s t : State K T F I) : Type 0 where

@@ -45,7 +45,7 @@ abbrev pub under_serials : List Made → List recorder.Call
 under_serials log = map (λ m. call (serial_in log m.object) (told m.call)) log
 
 module _ (K T F I : Type 0) where
-  -- What a recorder with room for so many calls has after a run, where the log is of the calls that are made: where it lost
+  -- The calls that a recorder with room for so many has after a run, where the log is of the calls that are made: where it lost
   -- none, all calls of the log; and else the first that there was room for, and the number of the others, up to the
   -- greatest u64.
   pub record IsRecorded (below : Procedures K T F I) (first : Recorder T) (room : ℕ) (steps : List (Passed K (Recorder T) F (Recorded I))) (log : List Made) : Type 0 where

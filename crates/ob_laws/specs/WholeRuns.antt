@@ -23,7 +23,7 @@ module _ (K T F I : Type 0) where
   Lifetimes =
       (g : Procedures K T F I) (first : T) (steps : List (Passed K T F I)) (o : ℕ) → Passes g (opening first) 0 steps → IsLifetime first steps o
 
-  -- What holds of a scan from the state s on. The entries that it shows have rising stamps, so no row is shown twice;
+  -- This holds of a scan from the state s on. The entries that it shows have rising stamps, so no row is shown twice;
   -- each is of a row that is in the directory at its step; and once a page says that no entry is left, each row
   -- of the directory that stood throughout was shown exactly once.
   pub record IsWholeScan (g : Procedures K T F I) (s : State K T F I) (d : ℕ) (steps : List (Passed K T F I)) (pages : List (Option Page)) : Type 0 where

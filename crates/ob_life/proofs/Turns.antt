@@ -5,7 +5,7 @@ use Rattle.std.proofs.Common.{◌≡◌, ℕ, ◌<◌, ◌≤◌, Bool, true, fa
 use Rattle.std.specs.Prelude.{Option, None, Some, option_map, MatchOption}
 use Rattle.std.specs.List.{list_any}
 use Rattle.std.specs.Option.{option_and_then, option_map_or}
-use Rattle.std.proofs.lemmas.Bool.{false≢true, ne_eqb, and_from}
+use Rattle.std.proofs.lemmas.Bool.{false≢true, ne_eqb, and_from, and_parts, or_right}
 use Rattle.std.proofs.lemmas.Bool.Decides.{nat_tests}
 use Rattle.std.proofs.lemmas.List.Elements.{All-nil, All-cons, All-head, All-tail, All-filter}
 use Rattle.ob_model.specs.declared.state.Body.{Body}
@@ -43,18 +43,10 @@ All-unfilter {X} P keeps (x ∷ xs) all = go (keeps x) refl all (λ rest. All-un
     go true e all more = All-cons (λ y. keeps y ≡ true → P y) x xs (λ _. All-head P x (filter keeps xs) all) (more (All-tail P x (filter keeps xs) all))
     go false e all more = All-cons (λ y. keeps y ≡ true → P y) x xs (λ yes. absurd (false≢true (sym e ∙ yes))) (more all)
 
-any_last : (a b : Bool) → b ≡ true → (a || b) ≡ true
-any_last true b h = refl
-any_last false b h = h
-
 -- the tests of being held up, and those of staying
 stays_up : (a e f : Bool) → (e ≡ true → f ≡ true) → (a || e) ≡ true → (a || f) ≡ true
 stays_up true e f last h = refl
 stays_up false e f last h = last h
-
-both_true : (a b : Bool) → (a && b) ≡ true → (a ≡ true) × (b ≡ true)
-both_true true b h = (refl, h)
-both_true false b h = cc
 
 or_all : (a b : Bool) → (a ≡ false → b ≡ true) → (a || b) ≡ true
 or_all true b h = refl
@@ -91,10 +83,6 @@ turn_next b id o less last = go (nat_le b o) refl
 or_false : (b : Bool) → (b || false) ≡ b
 or_false true = refl
 or_false false = refl
-
-or_true : (b : Bool) → (b || true) ≡ true
-or_true true = refl
-or_true false = refl
 
 and_true : (b : Bool) → (b && true) ≡ b
 and_true true = refl
@@ -299,8 +287,8 @@ module _ {K T F I : Type 0} (g : Procedures K T F I) (idle : I → Type 0) (s : 
   row_lower : (b c : ℕ) → c ≤ b → (o : ℕ) → list_any (open_row b o) s.rows ≡ false → list_any (open_row c o) s.rows ≡ false
   row_lower b c lower o closed = none_any (open_row c o) s.rows (λ k x below. is_false (open_row c o (get_or s.rows k x)) (λ opens.
       let r : Row = get_or s.rows k x in
-      let parts = both_true (r.directory == o) (not (is_kept s r) && not (nat_le c r.object)) opens in
-      let ends = both_true (not (is_kept s r)) (not (nat_le c r.object)) parts.1 in
+      let parts = and_parts (r.directory == o) (not (is_kept s r) && not (nat_le c r.object)) opens in
+      let ends = and_parts (not (is_kept s r)) (not (nat_le c r.object)) parts.1 in
       false≢true (sym (none_pass (open_row b o) s.rows closed k x below)
       ∙ and_from (r.directory == o) (not (is_kept s r) && not (nat_le b r.object)) parts.0
       (and_from (not (is_kept s r)) (not (nat_le b r.object)) ends.0 (ap not (not_above b r.object (omega (arith, lower, below_bound c r.object ends.1))))))))
@@ -322,8 +310,8 @@ module _ {K T F I : Type 0} (g : Procedures K T F I) (idle : I → Type 0) (s : 
           closed_done c o e (row_lower b c lower o closed.0)
           (none_any (open_shade c o) s.objects (λ k x below. is_false (open_shade c o (get_or s.objects k x)) (λ opens.
           let y : Object F I = get_or s.objects k x in
-          let parts = both_true (has_shadow o y.body) (not (is_alive s y.id) && not (plain c y.id)) opens in
-          let ends = both_true (not (is_alive s y.id)) (not (plain c y.id)) parts.1 in
+          let parts = and_parts (has_shadow o y.body) (not (is_alive s y.id) && not (plain c y.id)) opens in
+          let ends = and_parts (not (is_alive s y.id)) (not (plain c y.id)) parts.1 in
           let before : plain b y.id ≡ false = is_false (plain b y.id) (λ yes. false≢true (sym (not_true _ ends.1) ∙ plain_lower b c lower y.id yes)) in
           false≢true (sym (none_pass (open_shade b o) s.objects closed.1 k x below)
           ∙ and_from (has_shadow o y.body) (not (is_alive s y.id) && not (plain b y.id)) parts.0 (and_from (not (is_alive s y.id)) (not (plain b y.id)) ends.0 (ap not before))))))
@@ -586,7 +574,7 @@ module _ {K T F I : Type 0} (g : Procedures K T F I) (idle : I → Type 0) (s : 
     opt_same m o e = (λ i. D o || (at_option m o && (not (e i) && not (left_by t o)))) ∙ ap (λ b. D o || b) (and_false (at_option m o)) ∙ or_false (D o)
 
     opt_now : (m : Option ℕ) (o : ℕ) → at_option m o ≡ true → touched o ≡ false → left_by t o ≡ false → opt_done m o ≡ true
-    opt_now m o here free none = (λ i. D o || (here i && (not (free i) && not (none i)))) ∙ or_true (D o)
+    opt_now m o here free none = (λ i. D o || (here i && (not (free i) && not (none i)))) ∙ or_right (D o) true refl
 
     -- what is done then was ready
     opt_back : (c : ℕ) → ((o : ℕ) → touched o ≡ true → D o ≡ done c o) → ((o : ℕ) → touched o ≡ false → is_alive s o ≡ false → D o ≡ true → done c o ≡ true)
@@ -598,13 +586,13 @@ module _ {K T F I : Type 0} (g : Procedures K T F I) (idle : I → Type 0) (s : 
         go false f h = closed_done c o free rows shades
           where
             none : left_by t o ≡ false
-            none = not_true (left_by t o) (both_true (not (touched o)) (not (left_by t o)) (both_true (at_option m o) (not (touched o) && not (left_by t o)) h).1).1
+            none = not_true (left_by t o) (and_parts (not (touched o)) (not (left_by t o)) (and_parts (at_option m o) (not (touched o) && not (left_by t o)) h).1).1
 
             rows : list_any (open_row c o) s.rows ≡ false
             rows = none_any (open_row c o) s.rows (λ k x below. is_false (open_row c o (get_or s.rows k x)) (λ opens.
                 let r : Row = get_or s.rows k x in
-                let parts = both_true (r.directory == o) (not (is_kept s r) && not (nat_le c r.object)) opens in
-                let ends = both_true (not (is_kept s r)) (not (nat_le c r.object)) parts.1 in
+                let parts = and_parts (r.directory == o) (not (is_kept s r) && not (nat_le c r.object)) opens in
+                let ends = and_parts (not (is_kept s r)) (not (nat_le c r.object)) parts.1 in
                 let is = left_rows o none k x below parts.0 in
                 let it : touched r.object ≡ true = gone_touched k x below is.0 in
                 false≢true (sym (not_true (nat_le c r.object) ends.1) ∙ sym (done_touched c r.object it) ∙ sym (touched_as r.object it) ∙ is.1)))
@@ -612,8 +600,8 @@ module _ {K T F I : Type 0} (g : Procedures K T F I) (idle : I → Type 0) (s : 
             shades : list_any (open_shade c o) s.objects ≡ false
             shades = none_any (open_shade c o) s.objects (λ k x below. is_false (open_shade c o (get_or s.objects k x)) (λ opens.
                 let y : Object F I = get_or s.objects k x in
-                let parts = both_true (has_shadow o y.body) (not (is_alive s y.id) && not (plain c y.id)) opens in
-                let ends = both_true (not (is_alive s y.id)) (not (plain c y.id)) parts.1 in
+                let parts = and_parts (has_shadow o y.body) (not (is_alive s y.id) && not (plain c y.id)) opens in
+                let ends = and_parts (not (is_alive s y.id)) (not (plain c y.id)) parts.1 in
                 let is = left_shades o none k x below parts.0 in
                 false≢true (sym (not_true (plain c y.id) ends.1) ∙ plain_done k x below o parts.0 c ∙ either y.id (touched y.id) refl is.0 is.1)))
               where
@@ -728,7 +716,7 @@ module _ {K T F I : Type 0} (g : Procedures K T F I) (idle : I → Type 0) (s : 
       started =
           none_judged g s (at_first at)
           (λ k x below. or_all (is_alive s (get_or s.objects k x).id) (not (at_first at (get_or s.objects k x).id))
-          (λ dead. ap not (is_false (at_first at (get_or s.objects k x).id) (λ yes. object k x below dead (both_true (done b (get_or s.objects k x).id) (not (at (get_or s.objects k x).id)) yes)))))
+          (λ dead. ap not (is_false (at_first at (get_or s.objects k x).id) (λ yes. object k x below dead (and_parts (done b (get_or s.objects k x).id) (not (at (get_or s.objects k x).id)) yes)))))
           (λ k x below. or_all (is_kept s (get_or s.rows k x)) (not (at_first at (get_or s.rows k x).object))
           (λ gone. ap (λ c. not (c && not (at (get_or s.rows k x).object))) (done_touched b (get_or s.rows k x).object (gone_touched k x below gone) ∙ early k x below gone)))
         where
@@ -771,7 +759,7 @@ module _ {K T F I : Type 0} (g : Procedures K T F I) (idle : I → Type 0) (s : 
         shaded_out : All (λ x. (o : ℕ) → has_shadow o x.body ≡ true → is_alive s x.id ≡ false → touched x.id ≡ false → map ≡ Some x.id → touched o ≡ false → out o ≡ true) s.objects
         shaded_out k x below o has dead alone it free_o =
             (λ i. not (free_o i) && ((m == o) || at_option (shadow_of s m) o))
-            ∙ any_last (m == o) (at_option (shadow_of s m) o)
+            ∙ or_right (m == o) (at_option (shadow_of s m) o)
             (is_at (shadow_of s m) o (ap (shadow_of s) (same_map (get_or s.objects k x).id it) ∙ own_shadow idle s orderly sound k x below ∙ shadow_is o (get_or s.objects k x).body has))
 
         abbrev D0 : ℕ → Bool
@@ -808,7 +796,7 @@ module _ {K T F I : Type 0} (g : Procedures K T F I) (idle : I → Type 0) (s : 
         map_touched2 o e = opt_same M1 u1 map_judged mM o e ∙ map_touched1 o e
 
         map_back1 : (o : ℕ) → touched o ≡ false → is_alive s o ≡ false → M1 o ≡ true → done b o ≡ true
-        map_back1 = opt_back D0 s start b map_touched0 (λ o alone dead h. (both_true (done b o) (not (out o)) h).0) (Some m)
+        map_back1 = opt_back D0 s start b map_touched0 (λ o alone dead h. (and_parts (done b o) (not (out o)) h).0) (Some m)
 
         map_back2 : (o : ℕ) → touched o ≡ false → is_alive s o ≡ false → M2 o ≡ true → done b o ≡ true
         map_back2 = opt_back M1 u1 map_judged b map_touched1 map_back1 mM
@@ -932,8 +920,8 @@ module _ {K T F I : Type 0} (g : Procedures K T F I) (idle : I → Type 0) (s : 
             plain_other b o e
             ∙ ap not (none_any (open_row b o) s.rows (λ k x below. is_false (open_row b o (get_or s.rows k x)) (λ opens.
             let r : Row = get_or s.rows k x in
-            let parts = both_true (r.directory == o) (not (is_kept s r) && not (nat_le b r.object)) opens in
-            let ends = both_true (not (is_kept s r)) (not (nat_le b r.object)) parts.1 in
+            let parts = and_parts (r.directory == o) (not (is_kept s r) && not (nat_le b r.object)) opens in
+            let ends = and_parts (not (is_kept s r)) (not (nat_le b r.object)) parts.1 in
             let lower = last r.object (gone_touched k x below (not_true (is_kept s r) ends.0)) (below_bound b r.object ends.1) in
             omega (arith, later, lower, eqb-true r.directory o parts.0, orderly.descending k x below))))
 
@@ -946,8 +934,8 @@ module _ {K T F I : Type 0} (g : Procedures K T F I) (idle : I → Type 0) (s : 
             closed_done b o e (not_true (list_any (open_row b o) s.rows) (sym (plain_other b o e) ∙ plain_behind o later))
             (none_any (open_shade b o) s.objects (λ k x below. is_false (open_shade b o (get_or s.objects k x)) (λ opens.
             let y : Object F I = get_or s.objects k x in
-            let parts = both_true (has_shadow o y.body) (not (is_alive s y.id) && not (plain b y.id)) opens in
-            let ends = both_true (not (is_alive s y.id)) (not (plain b y.id)) parts.1 in
+            let parts = and_parts (has_shadow o y.body) (not (is_alive s y.id) && not (plain b y.id)) opens in
+            let ends = and_parts (not (is_alive s y.id)) (not (plain b y.id)) parts.1 in
             let above = (fit idle s orderly sound k x below o parts.0).1 in
             false≢true (sym (not_true (plain b y.id) ends.1) ∙ plain_behind y.id (omega (arith, later, above))))))
 
@@ -961,7 +949,7 @@ module _ {K T F I : Type 0} (g : Procedures K T F I) (idle : I → Type 0) (s : 
 
     shadowed : All (λ x. has_shadow id x.body ≡ true → ((is_alive s x.id || done b x.id) ≡ true) × (is_shadowing s x.id ≡ false)) s.objects
     shadowed k x below has = (
-      any_last (is_alive s (get_or s.objects k x).id) (done b (get_or s.objects k x).id) (behind (get_or s.objects k x).id ((fit idle s orderly sound k x below id has).1)),
+      or_right (is_alive s (get_or s.objects k x).id) (done b (get_or s.objects k x).id) (behind (get_or s.objects k x).id ((fit idle s orderly sound k x below id has).1)),
       unshadowing idle s orderly sound k x below id has,
     )
 
@@ -1079,8 +1067,8 @@ module _ {K T F I : Type 0} (g : Procedures K T F I) (idle : I → Type 0) (s : 
           false≢true (sym before ∙ plain_other b o free
           ∙ ap not (none_any (open_row b o) s.rows (λ k x below. is_false (open_row b o (get_or s.rows k x)) (λ opens.
           let r : Row = get_or s.rows k x in
-          let parts = both_true (r.directory == o) (not (is_kept s r) && not (nat_le b r.object)) opens in
-          let ends = both_true (not (is_kept s r)) (not (nat_le b r.object)) parts.1 in
+          let parts = and_parts (r.directory == o) (not (is_kept s r) && not (nat_le b r.object)) opens in
+          let ends = and_parts (not (is_kept s r)) (not (nat_le b r.object)) parts.1 in
           let own = now_own k x below o parts.0 (not_true (is_kept s r) ends.0) (not_true (nat_le b r.object) ends.1) (not_true (list_any (open_row id o) s.rows) (sym (plain_other id o free) ∙ after)) in
           false≢true (sym apart ∙ is_at mP o (names k x below own ∙ ap Some (eqb-true r.directory o parts.0))))))))
 
@@ -1184,8 +1172,8 @@ module _ {K T F I : Type 0} (g : Procedures K T F I) (idle : I → Type 0) (s : 
               shades : list_any (open_shade b o) s.objects ≡ false
               shades = none_any (open_shade b o) s.objects (λ k x below. is_false (open_shade b o (get_or s.objects k x)) (λ opens.
                   let y : Object F I = get_or s.objects k x in
-                  let parts = both_true (has_shadow o y.body) (not (is_alive s y.id) && not (plain b y.id)) opens in
-                  let ends = both_true (not (is_alive s y.id)) (not (plain b y.id)) parts.1 in
+                  let parts = and_parts (has_shadow o y.body) (not (is_alive s y.id) && not (plain b y.id)) opens in
+                  let ends = and_parts (not (is_alive s y.id)) (not (plain b y.id)) parts.1 in
                   one_shade k x below parts.0 (not_true (is_alive s y.id) ends.0) (not_true (plain b y.id) ends.1)))
 
       turned : Judged g s (done id) t4
@@ -1236,8 +1224,8 @@ module _ {K T F I : Type 0} (g : Procedures K T F I) (idle : I → Type 0) (s : 
       rows_up : (o : ℕ) → list_any (open_row id o) s.rows ≡ false → list_any (open_row b o) s.rows ≡ false
       rows_up o closed = none_any (open_row b o) s.rows (λ k x below. is_false (open_row b o (get_or s.rows k x)) (λ opens.
           let r : Row = get_or s.rows k x in
-          let parts = both_true (r.directory == o) (not (is_kept s r) && not (nat_le b r.object)) opens in
-          let ends = both_true (not (is_kept s r)) (not (nat_le b r.object)) parts.1 in
+          let parts = and_parts (r.directory == o) (not (is_kept s r) && not (nat_le b r.object)) opens in
+          let ends = and_parts (not (is_kept s r)) (not (nat_le b r.object)) parts.1 in
           let own = now_own k x below o parts.0 (not_true (is_kept s r) ends.0) (not_true (nat_le b r.object) ends.1) closed in
           false≢true (sym (not_true (is_kept s r) ends.0) ∙ upheld_kept s id up r own)))
 
@@ -1247,8 +1235,8 @@ module _ {K T F I : Type 0} (g : Procedures K T F I) (idle : I → Type 0) (s : 
           closed_done b o free (rows_up o closed.0)
           (none_any (open_shade b o) s.objects (λ k x below. is_false (open_shade b o (get_or s.objects k x)) (λ opens.
           let y : Object F I = get_or s.objects k x in
-          let parts = both_true (has_shadow o y.body) (not (is_alive s y.id) && not (plain b y.id)) opens in
-          let ends = both_true (not (is_alive s y.id)) (not (plain b y.id)) parts.1 in
+          let parts = and_parts (has_shadow o y.body) (not (is_alive s y.id) && not (plain b y.id)) opens in
+          let ends = and_parts (not (is_alive s y.id)) (not (plain b y.id)) parts.1 in
           let after : plain id y.id ≡ true = not_false (plain id y.id) (λ yet.
           false≢true (sym (none_pass (open_shade id o) s.objects closed.1 k x below)
           ∙ and_from (has_shadow o y.body) (not (is_alive s y.id) && not (plain id y.id)) parts.0 (and_from (not (is_alive s y.id)) (not (plain id y.id)) ends.0 (ap not yet)))) in
@@ -1317,8 +1305,8 @@ module _ {K T F I : Type 0} (g : Procedures K T F I) (idle : I → Type 0) (s : 
       rows : (o : ℕ) → list_any (open_row b o) s.rows ≡ false
       rows o = none_any (open_row b o) s.rows (λ k x below. is_false (open_row b o (get_or s.rows k x)) (λ opens.
           let r : Row = get_or s.rows k x in
-          let parts = both_true (r.directory == o) (not (is_kept s r) && not (nat_le b r.object)) opens in
-          let ends = both_true (not (is_kept s r)) (not (nat_le b r.object)) parts.1 in
+          let parts = and_parts (r.directory == o) (not (is_kept s r) && not (nat_le b r.object)) opens in
+          let ends = and_parts (not (is_kept s r)) (not (nat_le b r.object)) parts.1 in
           omega (arith, none r.object (gone_touched k x below (not_true (is_kept s r) ends.0)), below_bound b r.object ends.1)))
 
       plain_all : (o : ℕ) → plain b o ≡ true
@@ -1337,6 +1325,6 @@ module _ {K T F I : Type 0} (g : Procedures K T F I) (idle : I → Type 0) (s : 
               closed_done b o e (rows o)
               (none_any (open_shade b o) s.objects (λ k x below. is_false (open_shade b o (get_or s.objects k x)) (λ opens.
               let y : Object F I = get_or s.objects k x in
-              let parts = both_true (has_shadow o y.body) (not (is_alive s y.id) && not (plain b y.id)) opens in
-              let ends = both_true (not (is_alive s y.id)) (not (plain b y.id)) parts.1 in
+              let parts = and_parts (has_shadow o y.body) (not (is_alive s y.id) && not (plain b y.id)) opens in
+              let ends = and_parts (not (is_alive s y.id)) (not (plain b y.id)) parts.1 in
               false≢true (sym (not_true (plain b y.id) ends.1) ∙ plain_all y.id))))

@@ -3,6 +3,7 @@
 use Rattle.std.proofs.Common.{◌≡◌, ◌∙◌, ℕ, Bool, true, false, ◌||◌, ◌&&◌, ◌==◌, refl, ap, sym, subst, eqb-true}
 use Rattle.std.specs.List.{list_any, find}
 use Rattle.std.specs.Option.{is_some}
+use Rattle.std.proofs.lemmas.Bool.{or_right}
 use Rattle.std.proofs.lemmas.List.Elements.{All-weaker}
 use Rattle.std.proofs.lemmas.List.Folds.{list_any-append}
 use Rattle.ob_model.specs.declared.state.Held.{Held}
@@ -40,13 +41,9 @@ held_upheld s o held = ap (λ b. b || (is_permanent s o && has_name s o)) held
 -- and what is permanent and has a name, as it is told
 pub named_upheld : {K T F I : Type 0} (s : State K T F I) (o : ℕ) (standing : Standing) → standing ≡ standing_among s.objects s.rows o → (standing.permanent && is_some standing.place) ≡ true → is_upheld s o ≡ true
 named_upheld s o standing told named =
-    or_true (has_handle s o) (is_permanent s o && has_name s o)
+    or_right (has_handle s o) (is_permanent s o && has_name s o)
     (ap (λ b. is_permanent s o && b) (any_found (λ r. r.object == o) s.rows ∙ sym (is_mapped_some place_of (find (λ r. r.object == o) s.rows)))
     ∙ ap (λ (x : Standing). x.permanent && is_some x.place) (sym told) ∙ named)
-  where
-    or_true : (h b : Bool) → b ≡ true → (h || b) ≡ true
-    or_true true b e = refl
-    or_true false b e = e
 
 module _ {K T F I : Type 0} (s : State K T F I) (o : ℕ) (upheld : is_upheld s o ≡ true) where
   handle_more : (x : ℕ) → has_handle (with_handle_to s o) x ≡ (has_handle s x || ((o == x) || false))

@@ -98,7 +98,7 @@ module _ {K T F I : Type 0} (g : Procedures K T F I) where
   abbrev pub with_shadow_settled : (ℕ → Bool) → State K T F I → Option ℕ → State K T F I
   with_shadow_settled touched s shadow = option_map_or (settled_unless touched s) shadow s
 
-  -- What is left where an object was settled; then, where it had a name, the directory of its name, unless that is one of
+  -- The state that is left where an object was settled; then, where it had a name, the directory of its name, unless that is one of
   -- these objects; and then the shadows of both, where they went. All names of the object lie in one directory.
   abbrev pub AreSettled : State K T F I → (ℕ → Bool) → ℕ → State K T F I → Type 0
   AreSettled s touched o t =

@@ -12,7 +12,7 @@ use ob_handles::{HandleTable, Touched};
 use ob_space::Space;
 use ob_types::TypeSet;
 
-/// What a process that has ended leaves to be settled.
+/// The objects that a process that has ended leaves to be settled.
 #[derive(Drop)]
 pub struct EndedProcess {
     /// The objects that its handles led to.

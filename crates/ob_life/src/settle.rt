@@ -1,4 +1,4 @@
-//! What stays at the end of a step.
+//! The end of a step: objects and names that stay, and those that go.
 
 ghost use Rattle.std.specs.Prelude.{◌==◌, ◌≡◌, if◌then◌else◌, false, MatchOption};
 ghost use Rattle.std.specs.List.{find};

@@ -108,7 +108,7 @@ module _ {K T F I : Type 0} where
   abbrev pub IsHeld : State K T F I → ℕ → ℕ → Type 0
   IsHeld s p value = list_any (is_named p value) s.handles ≡ true
 
-  -- What a step leaves of the handles that processes name, from the state s to u, for a command that gives a handle
+  -- The handles that a step leaves to processes, from the state s to u, for a command that gives a handle
   -- to the process r: what isn't closed is held on; the value of a handle that is given was free, and is held; and
   -- the values that an answer gives with a process are those of its handles.
   pub record HoldOn (s : State K T F I) (IsClosed : ℕ → ℕ → Type 0) (r : ℕ) (a : Answer) (u : State K T F I) : Type 0 where
@@ -116,7 +116,7 @@ module _ {K T F I : Type 0} where
     pub given : (value : ℕ) → handle_given a ≡ Some value → IsFreeValue s r value × IsHeld u r value
     pub told : (child : ℕ) → process_given a ≡ Some child → values_given a ≡ values_in u child
 
-  -- What two steps leave of which values lead alike, from the states s and t to u and v, for a command of the
+  -- The values that lead alike after two steps, from the states s and t to u and v, for a command of the
   -- process p that gives a handle to the process r: values of handles that are there go on to lead alike, for
   -- every process; so do the values of the handles that both give; and values that led alike for p do so for a
   -- child of it, whether it inherits what they name or not.

@@ -1,4 +1,4 @@
--- What a create does past its refusals: it finds its place taken, and is refused or opens what is
+-- A create past its refusals: it finds its place taken, and is refused or opens what is
 -- there, or it makes the object that it asks for.
 --
 -- Sources: ZwCreateDirectoryObject, ZwCreateSymbolicLinkObject, ZwCreateEvent and OBJECT_ATTRIBUTES structure

@@ -1,4 +1,4 @@
--- What shows that the definitions say what they should: the statements of the law functions in
+-- Laws, which show that the definitions say what they should: the statements of the law functions in
 -- src/laws.rt, which prove them.
 use Rattle.std.specs.Prelude.{◌≡◌, ◌≢◌, ℕ, ◌+◌, ◌<◌, ◌≤◌, Bool, true, false, ◌&&◌, ◌||◌, ◌==◌, List, [], ◌∷◌, ◌++◌, length, map, All, AllPairs, Contains, Option, None, Some, MatchOption, if◌then◌else◌}
 use Rattle.std.specs.List.{find}

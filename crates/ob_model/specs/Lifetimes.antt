@@ -51,7 +51,7 @@ module _ {K T F I : Type 0} where
   abbrev pub calls_in : State K T F I → Passed K T F I → ℕ → List Call
   calls_in s x o = calls_of_step s x.entry.event x.outcome x.entry.answer x.after o
 
-  -- What holds of the calls of one step, from the state s. Each close is given, as the handles that are left in its
+  -- This holds of the calls of one step, from the state s. Each close is given, as the handles that are left in its
   -- process, those that the step leaves there and those that it closes after this one. No pending open pins what is
   -- deleted.
   pub record StepKeepsCount (o : ℕ) (s : State K T F I) (x : Passed K T F I) : Type 0 where

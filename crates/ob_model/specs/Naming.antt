@@ -1,4 +1,4 @@
--- What a query answers of an object: its path, which is the names on the way from it up to the root, and the
+-- The answers of a query of an object: its path, which is the names on the way from it up to the root, and the
 -- target of a link.
 --
 -- Sources: ObQueryNameString, ZwQuerySymbolicLinkObject (Windows Driver Kit); Windows Internals, Object

@@ -1,4 +1,4 @@
--- What an open does past its refusals: the type test, and a grant, which duplicates have too; or the parse of
+-- An open past its refusals: the type test, and a grant, which duplicates have too; or the parse of
 -- the object that its name reached.
 --
 -- Sources: ZwOpenDirectoryObject, ZwOpenEvent, OBJECT_ATTRIBUTES structure (OBJ_CASE_INSENSITIVE,

@@ -1,4 +1,4 @@
--- What stays at the end of each step: names, objects, and the deletes of those that go.
+-- The end of each step: the names and objects that stay, and the deletes of those that go.
 --
 -- Sources: Windows Internals, Object Manager (object retention: handle and reference counts,
 -- temporary and permanent objects); ZwMakeTemporaryObject and ZwMakePermanentObject (Windows Driver

@@ -1,4 +1,4 @@
-//! What a process asks of the namespace.
+//! The commands of processes.
 
 use crate::Bytes;
 use ob_base::{Handle, Proc};
@@ -52,7 +52,7 @@ pub enum Command<K> {
         place: Place,
         /// The attribute flags, as raw bits.
         attrs: u32,
-        /// What is looked up in its place: 1 to 32,767 bytes, each 0x20 to 0x7E, or else the create
+        /// The text that is looked up in its place: 1 to 32,767 bytes, each 0x20 to 0x7E, or else the create
         /// is refused. Whether it is a name is judged when the link is followed.
         target: Bytes,
     },

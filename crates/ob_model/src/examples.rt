@@ -114,7 +114,7 @@ pub fn views_come_first()
     ensures map_holds_its_directory { MapHoldsItsDirectory }
 {}
 
-/// What stays by a permanent name, by a handle and by names in it, and what goes.
+/// Objects that stay by a permanent name, by a handle and by names in them, and objects that go.
 ///
 /// - `holds_without_name`: A temporary directory that holds a held object's name loses its own name in settling, and stays.
 /// - `temporary_goes`: Without that handle both names go, and the object.

@@ -1,4 +1,4 @@
-//! What shows that the definitions say what they should.
+//! Laws, which show that the definitions say what they should.
 //!
 //! Each function has an empty body: its contract is a law about the definitions alone, stated in
 //! `specs/Laws.antt`. The type parameters are those of the state: the kinds, the value, the faces
@@ -313,7 +313,7 @@ pub fn what_is_kept_stays<K, T, F, I>()
     ensures { CloseStaysSettled K T F I }
 {}
 
-/// What a process sees of the machine doesn't depend on which values new handles were given: from two sound
+/// A process's view of the machine doesn't depend on which values new handles were given: from two sound
 /// states that differ in the values of handles alone, alike commands of one process get answers that differ in
 /// the values of handles alone, and leave such states again. Values that lead to a handle at the same place in
 /// both states go on to, and so do those of the handles that the answers give, and those that a child inherits.

@@ -1,9 +1,9 @@
-//! What the namespace answers, and the events of its history.
+//! The namespace's replies, and the events of its history.
 
 use crate::{Bytes, Command, Entries, Handles};
 use ob_base::{Handle, Proc, Status};
 
-/// What a reply gives beside its status.
+/// The value that a reply gives beside its status.
 #[derive(Debug, Drop)]
 pub enum Given {
     /// Nothing.
@@ -31,11 +31,11 @@ pub enum Given {
 pub struct Reply {
     /// How the command ended.
     pub status: Status,
-    /// What it gives.
+    /// The value that it gives.
     pub given: Given,
 }
 
-/// What became of the parse of a pending open. A parse is run by a caller, between two steps.
+/// How the parse of a pending open ended. A parse is run by a caller, between two steps.
 #[derive(Clone, Copy, PartialEq, Eq, Debug)]
 pub enum ParseRun {
     /// It was not run.
@@ -54,21 +54,21 @@ pub enum Event<K> {
     Start {
         /// The process that asks.
         process: Proc,
-        /// What it asks.
+        /// The command.
         command: Command<K>,
     },
     /// A caller brings the parse of a pending open, so that the open ends, or goes on to another parse.
     Resume {
         /// The ticket of the pending open.
         ticket: u64,
-        /// What became of its parse: it ran, or found no memory.
+        /// How its parse ended: it ran, or found no memory.
         parse: ParseRun,
     },
     /// A caller gives a pending open up.
     Abandon {
         /// The ticket of the pending open.
         ticket: u64,
-        /// What became of its parse.
+        /// How its parse ended.
         parse: ParseRun,
     },
 }

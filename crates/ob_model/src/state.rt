@@ -5,7 +5,7 @@
 use crate::Bytes;
 use ob_base::{Handle, ObjId, Proc};
 
-/// What an object is. `F` and `I` are the face and the inner value of an object whose type
+/// The body of an object. `F` and `I` are the face and the inner value of an object whose type
 /// belongs to the set of types; directories and symbolic links are the namespace's own.
 #[derive(Debug, Drop)]
 pub enum Body<F, I> {
@@ -24,7 +24,7 @@ pub enum Body<F, I> {
 pub struct Object<F, I> {
     /// Its number, from 1, never used again.
     pub id: ObjId,
-    /// What it is.
+    /// Its body.
     pub body: Body<F, I>,
     /// Whether it keeps its name and its life without a handle.
     pub permanent: bool,
@@ -93,7 +93,7 @@ pub struct PendingOpen<K> {
     pub process: Proc,
     /// The parsing object that was reached.
     pub object: ObjId,
-    /// What follows that object in the name, and is handed to its parse procedure.
+    /// The rest of the name after that object, which is handed to its parse procedure.
     pub rest: Bytes,
     /// The reparses that are left: 0 to 32.
     pub left: u32,

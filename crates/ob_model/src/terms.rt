@@ -20,7 +20,7 @@ pub struct Mode {
     pub follow: bool,
 }
 
-/// What is asked of a handle.
+/// The flags that are asked of a handle.
 ///
 /// Source: OBJECT_ATTRIBUTES structure (OBJ_INHERIT, OBJ_EXCLUSIVE; Windows Driver Kit).
 #[derive(Clone, Copy, PartialEq, Eq, Debug)]
@@ -32,7 +32,7 @@ pub struct GrantOptions {
 }
 
 impl GrantOptions {
-    /// What a command's flags ask of a handle.
+    /// The part of a command's flags that concerns a handle.
     ///
     /// Source: OBJECT_ATTRIBUTES structure (OBJ_INHERIT, OBJ_EXCLUSIVE; Windows Driver Kit).
     pub fn by(attrs: Attrs) -> GrantOptions

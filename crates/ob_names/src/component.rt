@@ -9,7 +9,7 @@ ghost use Rattle.ob_names.specs.Splitting.{SplitsGoOn, SplitsAreUnique, IsFirstS
 /// The byte that separates components, `\`.
 pub(crate) const SEPARATOR: u8 = b'\\';
 
-/// What a text after a separator begins with.
+/// The beginning of a text after a separator.
 #[derive(Clone, Copy, Debug)]
 pub enum Component<'a> {
     /// No component: the text is empty, or begins with a separator.

@@ -1,4 +1,4 @@
--- What the changes of one object make of a store.
+-- A store after changes of one object.
 --
 -- Source: this profile.
 use Rattle.std.specs.Prelude.{ℕ, Bool, ◌==◌, not, if◌then◌else◌, [], ◌∷◌, ◌++◌, filter, map, Option}

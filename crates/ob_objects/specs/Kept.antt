@@ -1,4 +1,4 @@
--- What a store keeps of its objects beside them: where the names for them are, and their types.
+-- The facts that a store keeps beside its objects: where the names for them are, and their types.
 --
 -- Source: this profile.
 use Rattle.std.specs.Prelude.{◌≡◌, ℕ, Option}

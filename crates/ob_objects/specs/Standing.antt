@@ -1,4 +1,4 @@
--- What decides whether an object stays.
+-- The facts that decide whether an object stays.
 --
 -- Source: Windows Internals, Object Manager (object retention; temporary and permanent objects).
 use Rattle.std.specs.Prelude.{ℕ, ◌==◌, List, false}

@@ -83,7 +83,7 @@ module _ {F I : Type 0} where
   abbrev pub place_at : Entries F I → ℕ → Option EntryPlace
   place_at store id = option_map place_of (find (λ r. r.object == id) (rows_of store))
 
-  -- What holds of every store: the ids rise strictly, the entries of each directory are a directory's,
+  -- This holds of every store: the ids rise strictly, the entries of each directory are a directory's,
   -- and no object has two names.
   pub record IsStore (store : Entries F I) : Type 0 where
     pub rising : IsStrictlySortedBy nat_cmp (keys_of store)

@@ -44,7 +44,7 @@ pub fn stored_is_the_object<K, T, F, I>()
     ensures { StoredIsTheObject K T F I }
 {}
 
-/// What the state finds in a directory is the row of the entry that is found there.
+/// A name that the state finds in a directory is the row of the entry that is found there.
 pub(crate) fn store_finds_what_the_state_finds<K, T, F, I>()
     ensures { StoreFindsWhatTheStateFinds K T F I }
 {}
@@ -129,7 +129,7 @@ pub(crate) fn a_new_object_opens<K, T, F, I>()
     ensures { NewObjectOpens K T F I }
 {}
 
-/// What came can be taken back: an object of a free id, a name that came last, and an object with such
+/// An addition can be taken back: an object of a free id, a name that came last, and an object with such
 /// a name.
 pub(crate) fn what_came_last_is_taken_back<F, I>()
     ensures object { ObjectIsTakenBack F I }

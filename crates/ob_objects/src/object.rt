@@ -1,4 +1,4 @@
-//! What is stored for one object.
+//! Stored objects.
 
 ghost use Rattle.std.specs.Prelude.{◌≡◌, [], IfOk};
 ghost use Rattle.ob_model.specs.State.{shadow_in};
@@ -12,7 +12,7 @@ use ob_types::Copied;
 use std::alloc::{AllocError, Global};
 use std::sync::Arc;
 
-/// What a stored object is. `F` is the face and `I` the inner value of an object whose type belongs
+/// The body of a stored object. `F` is the face and `I` the inner value of an object whose type belongs
 /// to the set of types; directories and symbolic links are the namespace's own.
 ///
 /// Source: Windows Internals, Object Manager: object headers and bodies.
@@ -24,10 +24,10 @@ pub enum StoredBody<F, I> {
     Link(NameBuf),
     /// An object of a type of the set.
     Other {
-        /// What never changes of it. It is shared, so that a parse procedure can see it while the
+        /// The part of it that never changes. It is shared, so that a parse procedure can see it while the
         /// store is used elsewhere. Contracts see the face by `arc_value`.
         face: Arc<F, Global>,
-        /// What its open, close and delete procedures change.
+        /// The part that its open, close and delete procedures change.
         inner: I,
     },
 }
@@ -81,7 +81,7 @@ pub struct StoredObject<F, I> {
     pub permanent: bool,
     /// Whether one process alone may hold handles to it.
     pub exclusive: bool,
-    /// What it is.
+    /// Its body.
     pub body: StoredBody<F, I>,
 }
 

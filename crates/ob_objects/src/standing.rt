@@ -1,11 +1,11 @@
-//! What decides whether an object stays.
+//! The facts that decide whether an object stays.
 
 ghost use Rattle.std.specs.Prelude.{◌≡◌, ◌&&◌};
 ghost use Rattle.std.specs.Option.{is_some};
 
 use crate::EntryPlace;
 
-/// What decides whether an object stays where no handle to it is left, as a store gives it at once.
+/// The facts that decide whether an object stays where no handle to it is left, as a store gives it at once.
 ///
 /// Source: Windows Internals, Object Manager (object retention; temporary and permanent objects); the stamps are this
 /// profile.

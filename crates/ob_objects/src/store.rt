@@ -114,7 +114,7 @@ impl<T: TypeSet> Store<T> {
         self.len() == 0
     }
 
-    /// What is stored under an id, and `None` exactly where nothing is. Takes no memory.
+    /// The object that is stored under an id, and `None` exactly where there is none. Takes no memory.
     pub fn get(&self, id: ObjId) -> Option<&StoredObject<T::Face, T::Inner>>
         ensures stored { option_copied result ≡ stored_at self.now id }
 
@@ -220,7 +220,7 @@ impl<T: TypeSet> Store<T> {
         })
     }
 
-    /// What decides whether an object stays, found at once: whether it is permanent, whether names lie in it, and where
+    /// The facts that decide whether an object stays, found at once: whether it is permanent, whether names lie in it, and where
     /// its name is. Takes no memory.
     ///
     /// Source: Windows Internals, Object Manager (object retention); the stamps are this profile.

@@ -2,7 +2,7 @@
 use Rattle.std.proofs.Common.{◌≡◌, ◌∙◌, ℕ, ◌<◌, ◌≤◌, ◌==◌, ◌||◌, ◌&&◌, not, nat_le, cond, Bool, true, false, List, [], ◌∷◌, get_or, filter, find, All, Option, None, Some, ap, refl, sym, subst, arith, eqb-true, leb-true, leb-false}
 use Rattle.std.specs.List.{AllPairs, list_any}
 use Rattle.std.specs.Prelude.{MatchOption}
-use Rattle.std.proofs.lemmas.Bool.{false≢true, ne_eqb}
+use Rattle.std.proofs.lemmas.Bool.{false≢true, ne_eqb, or_left, or_right}
 use Rattle.std.proofs.lemmas.List.Elements.{All-weaker}
 use Rattle.std.proofs.lemmas.List.Folds.{list_any-append}
 use Rattle.ob_model.specs.declared.state.Held.{Held}
@@ -20,23 +20,15 @@ use Rattle.ob_model.proofs.Sorted.{pairs_head, pairs_tail}
 use Rattle.ob_life.specs.Settling.{with_handle_to}
 use Rattle.ob_opens.proofs.Stays.{both_still, alive_still}
 
-or_true : (b : Bool) → (b || true) ≡ true
-or_true true = refl
-or_true false = refl
-
-or_left : (a b : Bool) → a ≡ true → (a || b) ≡ true
-or_left true b e = refl
-or_left false b e = cc
-
 -- the tests of staying, of which the second may be met in place of the third
 moves : (r h p m n k h' p' k' : Bool) → (h ≡ true → h' ≡ true) → (p ≡ true → (h' || p') ≡ true) → (k ≡ true → k' ≡ true)
     → (r || h || p || m || n || k) ≡ true → (r || h' || p' || m || n || k') ≡ true
 moves true h p m n k h' p' k' held pinned kept e = refl
 moves false true p m n k h' p' k' held pinned kept e = ap (λ x. x || p' || m || n || k') (held refl)
 moves false false true m n k h' p' k' held pinned kept e = ap (λ x. x || m || n || k') (pinned refl)
-moves false false false true n k h' p' k' held pinned kept e = ap (λ x. x || n || k') (or_true (h' || p'))
-moves false false false false true k h' p' k' held pinned kept e = ap (λ x. x || k') (or_true (h' || p' || false))
-moves false false false false false k h' p' k' held pinned kept e = ap (λ x. h' || p' || false || false || x) (kept e) ∙ or_true (h' || p' || false || false)
+moves false false false true n k h' p' k' held pinned kept e = ap (λ x. x || n || k') (or_right (h' || p') true refl)
+moves false false false false true k h' p' k' held pinned kept e = ap (λ x. x || k') (or_right (h' || p' || false) true refl)
+moves false false false false false k h' p' k' held pinned kept e = ap (λ x. h' || p' || false || false || x) (kept e) ∙ or_right (h' || p' || false || false) true refl
 
 -- what an open of a list pins is pinned by another one, or is what the open of the ticket pinned
 pinned_apart : {K : Type 0} (ticket o : ℕ) (x : PendingOpen K) (xs : List (PendingOpen K)) → AllPairs (λ a b. a.ticket < b.ticket) xs → find (λ y. y.ticket == ticket) xs ≡ Some x
@@ -63,7 +55,7 @@ pinned_apart {K} ticket o x (y ∷ ys) rising found any =
     go false e is any rest = either (y.object == o) any
       where
         either : (b : Bool) → (b || list_any (λ z. z.object == o) ys) ≡ true → ((x.object == o) || (b || list_any (λ z. z.object == o) left)) ≡ true
-        either true h = or_true (x.object == o)
+        either true h = or_right (x.object == o) true refl
         either false h = rest is h
 
 module _ {K T F I : Type 0} (s : State K T F I) (ticket : ℕ) (x : PendingOpen K) (rising : AllPairs (λ a b. a.ticket < b.ticket) s.pending) (found : pending_of s ticket ≡ Some x) (settled : IsSettled s) where
@@ -131,13 +123,13 @@ module _ {K T F I : Type 0} (s : State K T F I) (ticket : ℕ) (x : PendingOpen 
         where
           go : (b : Bool) → (x.object == o) ≡ b → (b || is_pinned (without_pending s ticket) o) ≡ true → (has_handle s o || is_pinned (without_pending s ticket) o) ≡ true
           go true same h = or_left (has_handle s o) _ (subst (λ n. has_handle s n ≡ true) (eqb-true x.object o same) held)
-          go false other h = ap (λ b. has_handle s o || b) h ∙ or_true (has_handle s o)
+          go false other h = ap (λ b. has_handle s o || b) h ∙ or_right (has_handle s o) true refl
 
   -- and else what was made after the object that it pinned stays by itself where it did
   still_itself : (o : ℕ) → x.object < o → is_alive_itself s o ≡ true → is_alive_itself (without_pending s ticket) o ≡ true
   still_itself o later =
       moves (o == root_id) (has_handle s o) (is_pinned s o) (is_mapped s o) (is_permanent s o && has_name s o) (holds_kept s o) (has_handle s o) (is_pinned (without_pending s ticket) o) (holds_kept s o)
-      (λ e. e) (λ e. ap (λ b. has_handle s o || b) (ap (λ b. b || is_pinned (without_pending s ticket) o) (sym (ne_eqb x.object o (λ same. omega (arith, later, same)))) ∙ pinned_apart ticket o x s.pending rising found e) ∙ or_true (has_handle s o)) (λ e. e)
+      (λ e. e) (λ e. ap (λ b. has_handle s o || b) (ap (λ b. b || is_pinned (without_pending s ticket) o) (sym (ne_eqb x.object o (λ same. omega (arith, later, same)))) ∙ pinned_apart ticket o x s.pending rising found e) ∙ or_right (has_handle s o) true refl) (λ e. e)
 
   -- so that only that object can go, and its shadow, which was made before it
   pub only_pinned_goes : IsSound s → (o : ℕ) → is_alive s o ≡ true → is_alive (without_pending s ticket) o ≡ false → o ≤ x.object

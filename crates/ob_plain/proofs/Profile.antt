@@ -2,6 +2,7 @@
 use Rattle.std.proofs.Common.{◌≡◌, ◌∙◌, ℕ, Bool, true, false, ◌&&◌, cond, List, [], ◌∷◌, map, IsTrue, All, Bor, refl, ap, ◌==◌}
 use Rattle.std.proofs.lemmas.List.Elements.{All-nil, All-cons}
 use Rattle.std.specs.List.{list_all, slice_split, onto_first}
+use Rattle.std.proofs.lemmas.Bool.{and_from}
 use Rattle.ob_model.specs.Names.{is_profile_byte, is_profile_text}
 use Rattle.ob_plain.specs.Arguments.{pieces, semicolon}
 
@@ -13,13 +14,10 @@ second_true : (s t : Bool) → (s && t) ≡ true → t ≡ true
 second_true true t e = e
 second_true false t e = cc
 
-both_true : (s t : Bool) → s ≡ true → t ≡ true → (s && t) ≡ true
-both_true s t e f = λ i. e i && f i
-
 onto_profile : (x : ℕ) (parts : List (List ℕ)) → is_profile_byte x ≡ true → list_all is_profile_text parts ≡ true → list_all is_profile_text (onto_first x parts) ≡ true
-onto_profile x [] e f = both_true _ _ (both_true _ _ e refl) refl
+onto_profile x [] e f = and_from _ _ (and_from _ _ e refl) refl
 onto_profile x (part ∷ parts) e f =
-    both_true _ _ (both_true _ _ e (first_true (is_profile_text part) (list_all is_profile_text parts) f)) (second_true (is_profile_text part) (list_all is_profile_text parts) f)
+    and_from _ _ (and_from _ _ e (first_true (is_profile_text part) (list_all is_profile_text parts) f)) (second_true (is_profile_text part) (list_all is_profile_text parts) f)
 
 split_profile : (p : ℕ → Bool) (text : List ℕ) → is_profile_text text ≡ true → list_all is_profile_text (slice_split p text) ≡ true
 split_profile p [] e = refl

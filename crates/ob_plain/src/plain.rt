@@ -20,14 +20,14 @@ pub enum PlainKind {
     Section,
 }
 
-/// What never changes of a plain object.
+/// The part of a plain object that never changes.
 #[derive(Debug, Drop)]
 pub struct PlainFace {
     /// Its kind.
     pub kind: PlainKind,
 }
 
-/// What the procedures change of a plain object. (this profile)
+/// The part of a plain object that the procedures change. (this profile)
 #[derive(Debug, Drop)]
 pub struct PlainInner {
     /// The handles that are open to it; at the greatest u32, that many or more.

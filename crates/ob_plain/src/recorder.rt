@@ -28,10 +28,10 @@ pub struct Recorder<T> {
     calls: CallList,
 }
 
-/// What the procedures change of an object of a recorded set. (this profile)
+/// The part of an object of a recorded set that the procedures change. (this profile)
 #[derive(Debug, Drop)]
 pub struct Recorded<I> {
-    /// What they change of it in the set below.
+    /// Its part in the set below.
     pub part: I,
     /// The serial that its first accepted open drew, from 1; 0 before. At the greatest u64, that one
     /// or none that is its own.
@@ -181,7 +181,7 @@ impl<T: TypeSet> TypeSet for Recorder<T> {
     ghost equal_kinds = { T.equal_kinds };
 }
 
-/// What a parse procedure answers, where an instance that it makes was not opened yet.
+/// The answer of a parse procedure, where an instance that it makes was not opened yet.
 fn unopened<F, I>(answer: ParseAnswer<F, I>) -> ParseAnswer<F, Recorded<I>>
     ensures { answer_of result ≡ unopened_answer (answer_of answer) }
 {

@@ -3,6 +3,7 @@
 use Rattle.std.proofs.Common.{◌≡◌, ℕ, zero, suc, ◌+◌, ◌*◌, ◌≤◌, ◌==◌, Bool, true, false, ◌&&◌, ◌||◌, not, cond, List, [], ◌∷◌, ◌++◌, length, get_or, filter, find, All, None, Some, is_some, refl, ap, ◌∙◌, sym, subst, arith, eqb-true, eq-eqb}
 use Rattle.std.specs.Prelude.{count_by, nat_lt}
 use Rattle.std.specs.List.{AllPairs, list_any}
+use Rattle.std.proofs.lemmas.Bool.{and_parts}
 use Rattle.std.proofs.lemmas.Bool.Decides.{nat_tests}
 use Rattle.std.proofs.lemmas.List.Elements.{All-nil}
 use Rattle.std.proofs.lemmas.List.Filters.{length-filter_both}
@@ -11,10 +12,6 @@ use Rattle.ob_model.specs.declared.state.Held.{Held}
 use Rattle.ob_model.specs.declared.state.Process.{Process}
 use Rattle.ob_model.specs.Closing.{is_handle}
 use Rattle.ob_model.proofs.Finds.{All-kept}
-
-both_true : (a b : Bool) → (a && b) ≡ true → (a ≡ true) × (b ≡ true)
-both_true true b h = (refl, h)
-both_true false b h = cc
 
 -- a handle is the one of its process and value
 pub is_itself : (p value : ℕ) → ((p == p) && (value == value)) ≡ true
@@ -52,7 +49,7 @@ only_handle p value (x ∷ hs) h differ e =
   where
     alike : (k : Held) → is_handle p value x ≡ true → is_handle p value k ≡ true → is_handle x.process x.value k ≡ true
     alike k f is =
-        let mine = both_true (x.process == p) (x.value == value) f in
+        let mine = and_parts (x.process == p) (x.value == value) f in
         subst (λ (q : ℕ × ℕ). is_handle q.0 q.1 k ≡ true) (λ i. (sym (eqb-true x.process p mine.0) i, sym (eqb-true x.value value mine.1) i)) is
 
     go : (b : Bool) → is_handle p value x ≡ b → cond b (Some x) (find (is_handle p value) hs) ≡ Some h

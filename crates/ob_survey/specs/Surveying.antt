@@ -1,4 +1,4 @@
--- What a tree shows of a state.
+-- The survey of a state, which a tree shows.
 --
 -- Source: this profile.
 use Rattle.std.specs.Prelude.{ℕ, zero, suc, ◌==◌, List, [], ◌∷◌, map, Option}

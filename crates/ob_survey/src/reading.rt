@@ -15,7 +15,7 @@ use ob_tree::{HeldList, Seen, SeenProcess, Survey};
 use ob_types::TypeSet;
 use std::alloc::{AllocError, Global};
 
-/// What a tree shows of a namespace: of each object its name, its type, what holds of it, and how many handles and pending opens lead to it; of each
+/// The survey of a namespace, which a tree shows: of each object its name, its type, what holds of it, and how many handles and pending opens lead to it; of each
 /// live process the directory of its device map, and its handles in the order in which they were opened. The only error is out of memory. (this
 /// profile)
 pub fn survey<T: TypeSet, H: HandleTable>(

@@ -1,4 +1,4 @@
--- What a tree shows of a namespace.
+-- The survey of a namespace, which a tree shows.
 --
 -- Source: this profile.
 use Rattle.std.specs.Prelude.{List}

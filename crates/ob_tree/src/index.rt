@@ -1,4 +1,4 @@
-//! What is looked up while a tree is written.
+//! Lookups while a tree is written.
 
 ghost use Rattle.std.specs.Prelude.{◌≡◌, map, IfOk};
 ghost use Rattle.std.specs.Option.{option_copied};

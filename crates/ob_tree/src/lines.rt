@@ -21,7 +21,7 @@ const WIDTH: usize = 40;
 /// A line that is still to be written.
 #[derive(Drop)]
 pub(crate) struct Item {
-    /// What precedes it, for the directories around it.
+    /// The text before it, for the directories around it.
     pub indent: Bytes,
     /// Where it is among those of its directory.
     pub branch: Branch,
@@ -129,7 +129,7 @@ fn push_found(
     }
 }
 
-/// What precedes the lines below one.
+/// The text before the lines below one.
 pub(crate) fn indent_below(alloc: Global, style: Style, item: &Item) -> Result<Vec<u8>, AllocError>
     ensures { IfOk result (λ text. text.items ≡ item.now.indent ++ bar_text style item.now.branch) }
 {

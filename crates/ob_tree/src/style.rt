@@ -24,7 +24,7 @@ pub(crate) enum Branch {
 }
 
 impl Style {
-    /// What precedes the name of a line.
+    /// The text before the name of a line.
     pub(crate) fn connector(self, branch: Branch) -> &'static [u8]
         ensures { result.now ≡ connector_text self branch }
     {
@@ -37,7 +37,7 @@ impl Style {
         }
     }
 
-    /// What precedes each line below it, in the same place.
+    /// The text before each line below it, in the same place.
     pub(crate) fn bar(self, branch: Branch) -> &'static [u8]
         ensures { result.now ≡ bar_text self branch }
     {

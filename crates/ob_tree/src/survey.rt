@@ -1,4 +1,4 @@
-//! What a tree shows of a namespace.
+//! The survey of a namespace, which a tree shows.
 
 ghost use Rattle.std.specs.Prelude.{◌≡◌};
 
@@ -6,7 +6,7 @@ use ob_base::{ObjId, Proc};
 use ob_model::{Bytes, Held, Row};
 use std::marker::Model;
 
-/// What a tree shows of an object.
+/// The part of a survey that describes an object.
 #[derive(Debug, Drop)]
 pub struct Seen {
     /// Its id.
@@ -60,7 +60,7 @@ impl HeldList {
     }
 }
 
-/// What a tree shows of a process.
+/// The part of a survey that describes a process.
 #[derive(Drop)]
 pub struct SeenProcess {
     /// Its number.
@@ -71,7 +71,7 @@ pub struct SeenProcess {
     pub handles: HeldList,
 }
 
-/// What a tree shows of a namespace: its objects, by rising ids, and its live processes, by rising numbers. Contracts see
+/// The survey of a namespace: its objects, by rising ids, and its live processes, by rising numbers. Contracts see
 /// the two lists.
 #[derive(Drop)]
 pub struct Survey {

@@ -37,7 +37,7 @@ module _ {K T F I : Type 0} (g : Procedures K T F I) where
   abbrev pub EndsOrWants : F → List ℕ → Option (ParseOutcome F I) → Type 0
   EndsOrWants face rest outcome = MatchOption outcome (Unit {0}) (λ end. ParseEnds g face rest end)
 
-  -- What holds of a parse that was run: the kind of its face parses, what it ended with is the end of that parse,
+  -- This holds of a parse that was run: the kind of its face parses, its outcome is the end of that parse,
   -- and what it made counts no open handle.
   pub record IsRun (Idle : I → Type 0) (face : F) (rest : List ℕ) (outcome : Option (ParseOutcome F I)) : Type 0 where
     pub parses : g.parses (g.kind_of face) ≡ true

@@ -1,4 +1,4 @@
--- What is brought when a pending open ends, and that it is what the machine takes.
+-- The parse that is brought when a pending open ends is the one that the machine takes.
 --
 -- Source: this profile.
 use Rattle.std.specs.Prelude.{◌≡◌, Option, None, Some}

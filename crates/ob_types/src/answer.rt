@@ -1,8 +1,8 @@
-//! What a parse procedure answers.
+//! The answers of a parse procedure.
 
 use ob_names::NameBuf;
 
-/// What a parse procedure answers to the rest of a name (Windows Internals, Object Manager: parse
+/// The answer of a parse procedure to the rest of a name (Windows Internals, Object Manager: parse
 /// methods; the forms of the answer: this profile). `F` and `I` are the face and the inner value of an object.
 /// Contracts see it as `ob_model`'s answer of the same name.
 #[derive(Debug, Drop)]

@@ -1,4 +1,4 @@
-//! What a pending open asks for.
+//! The terms of a pending open.
 
 ghost use Rattle.std.specs.Prelude.{◌↔◌, IsTrue};
 ghost use Rattle.ob_types.specs.Parse.{IsFor};

@@ -9,10 +9,10 @@ use crate::set::TypeSet;
 /// list of what was deleted. What is taken changes what no procedure of the set reads, so that the steps before and
 /// after it are a run as if nothing had been taken. (this profile)
 pub trait Drains: TypeSet {
-    /// What is taken.
+    /// An item of the list.
     type Item: Drop + Send;
 
-    /// What is taken next; none where nothing is left.
+    /// The next item; none where nothing is left.
     ghost next: { Self → Option Self.Item };
 
     /// The value after that, where something is taken. It is a function of every value, for the law below.

@@ -11,7 +11,7 @@ pub fn refused_open<T: TypeSet>()
     ensures { model.RefusedOpenKeeps T.procedures }
 {}
 
-/// What is made counts no open handle. (this profile)
+/// A new object counts no open handle. (this profile)
 pub fn made_idle<T: TypeSet>()
     ensures { model.MadeIsIdle T.procedures T.idle }
 {}

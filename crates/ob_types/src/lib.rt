@@ -1,4 +1,4 @@
-//! What a set of types promises: the procedures of its types, what each of them gives, and the
+//! The promises of a set of types: the procedures of its types, what each of them gives, and the
 //! laws that make a set lawful.
 //!
 //! A set of types is a value whose type has an `impl` of [`TypeSet`]. What its procedures mean is

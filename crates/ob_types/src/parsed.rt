@@ -16,7 +16,7 @@ use std::sync::Arc;
 /// A parse that was run, with its end: the ticket of the pending open that waits for it, the face and the rest
 /// that were parsed, and what the parse ended with, if it found memory.
 ///
-/// What it ended with is the end of the parse of that very face over that very rest: that is part of the type.
+/// Its outcome is the end of the parse of that very face over that very rest: that is part of the type.
 /// It can't be dropped: what its parse made would be lost. (Windows Internals, Object Manager: parse methods;
 /// that a parse is run between two steps is this profile)
 pub struct Parsed<T: TypeSet> {
@@ -119,7 +119,7 @@ impl<T: TypeSet> Parsed<T> {
         self.rest.as_slice()
     }
 
-    /// What the parse ended with.
+    /// The outcome of the parse.
     pub fn outcome(&self) -> &Outcome<T::Face, T::Inner>
         ensures outcome { outcome_of result.now ≡ self.now.outcome }
 

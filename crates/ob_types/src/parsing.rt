@@ -81,7 +81,7 @@ impl<T: TypeSet> Parsing<T> {
         &self.face
     }
 
-    /// What follows the pinned object in the name.
+    /// The rest of the name after the pinned object.
     pub fn rest(&self) -> &[u8]
         ensures { result.now ≡ self.now.rest }
     {

@@ -1,4 +1,4 @@
-//! What is brought when a pending open is given up.
+//! The parse that is brought when a pending open is given up.
 
 ghost use Rattle.std.specs.Prelude.{◌≡◌, ◌↔◌, IsTrue};
 ghost use Rattle.ob_types.specs.Parse.{asked_of, EndsOrWants, IsFor};
@@ -17,7 +17,7 @@ pub enum Pending<T: TypeSet> {
 }
 
 impl<T: TypeSet> Pending<T> {
-    /// What became of the parse: it was not run, it ran to its end, or it found no memory.
+    /// How the parse ended: it was not run, it ran to its end, or it found no memory.
     pub fn run(&self) -> ParseRun
         ensures { result ≡ run_of self.now }
     {

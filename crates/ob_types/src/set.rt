@@ -18,13 +18,13 @@ pub trait TypeSet: Sized + Drop + Send {
     /// The kinds of objects, one for each type.
     type Kind: Copy + Eq + Send + Sync;
 
-    /// What never changes of an object.
+    /// The part of an object that never changes.
     type Face: Drop + Send + Sync;
 
-    /// What the procedures change of an object.
+    /// The part of an object that the procedures change.
     type Inner: Drop + Send;
 
-    /// What each procedure means, as functions.
+    /// The procedures' meanings, as functions.
     ghost procedures: { model.Procedures Self.Kind Self Self.Face Self.Inner };
 
     /// The inner value counts no open handle.
@@ -58,7 +58,7 @@ pub trait TypeSet: Sized + Drop + Send {
         ensures refused { IfErr result (λ refusal.
             IsTold refusal (procedures.refuses_to_make kind args.now)) };
 
-    /// What the parse procedure of an object with this face answers to the rest of a name that leads to
+    /// The answer of the parse procedure of an object with this face to the rest of a name that leads to
     /// the object. The only error is out of memory. It is called outside of every lock, and knows nothing of
     /// the set's value. A run asks only objects whose kind parses; what others answer is the set's choice.
     fn parse(
@@ -68,7 +68,7 @@ pub trait TypeSet: Sized + Drop + Send {
     ) -> Result<ParseAnswer<Self::Face, Self::Inner>, AllocError>
         ensures { IfOk result (λ answer. answer_of answer ≡ procedures.parsed face.now rest.now) };
 
-    /// What is done for a new handle to an object with this inner value. It may refuse the handle,
+    /// Called for a new handle to an object with this inner value. It may refuse the handle,
     /// with a number of its own; then the set and the inner value stay as they were.
     fn on_open(&mut self, inner: &mut Self::Inner, reason: Reason) -> Result<(), u16>
         ensures accepted { IfOk result (λ _. procedures.refuses_to_open self.old inner.old reason
@@ -77,13 +77,13 @@ pub trait TypeSet: Sized + Drop + Send {
             ≡ Some code) }
         ensures left { (self.new, inner.new) ≡ procedures.opened self.old inner.old reason };
 
-    /// What is done for a handle that went, given the handles to the object that are left in its
+    /// Called for a handle that went, given the handles to the object that are left in its
     /// process and in the whole system.
     fn on_close(&mut self, inner: &mut Self::Inner, process_left: u32, system_left: u32)
         ensures { (self.new, inner.new)
             ≡ procedures.closed self.old inner.old process_left system_left };
 
-    /// What is done for an object that goes, with no handle open to it.
+    /// Called for an object that goes, with no handle open to it.
     fn on_delete(&mut self, inner: Self::Inner)
         requires { idle inner }
         ensures { self.new ≡ procedures.deleted self.old inner };
@@ -91,7 +91,7 @@ pub trait TypeSet: Sized + Drop + Send {
     /// An open that is refused leaves the set and the inner value as they were.
     ghost refused_open: { model.RefusedOpenKeeps procedures };
 
-    /// What is made counts no open handle.
+    /// A new object counts no open handle.
     ghost made_idle: { model.MadeIsIdle procedures idle };
 
     /// A close that leaves no handle in the system leaves an idle inner value.

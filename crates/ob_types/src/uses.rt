@@ -1,4 +1,4 @@
-//! What follows for every lawful set.
+//! Consequences for every lawful set.
 
 ghost use Rattle.std.specs.Prelude.{◌≡◌, ◌↔◌, None, Some, OnErr, IfOk, IfErr, IsTrue};
 
@@ -24,7 +24,7 @@ pub fn open_or_leave<T: TypeSet>(
     set.on_open(inner, reason)
 }
 
-/// What is done for an object whose last handle in the system goes: close, with no handle left,
+/// The calls for an object whose last handle in the system goes: close, with no handle left,
 /// and then delete. (Windows Internals, Object Manager: object retention; the order: this profile)
 pub fn close_last<T: TypeSet>(set: &mut T, inner: T::Inner)
     ensures { let left = (T.procedures).closed set.old inner 0 0 in set.new
