@@ -15,7 +15,7 @@ PAGE, TABLE = ROOT / "docs" / "script.md", ROOT / "cases" / "misfits.txt"
 LIMIT = 262_144
 
 # the first line of a script with workers, and of one without, in column 1
-START, SESSION_START = "P, stat, seal or thread", "P or stat"
+START, SESSION_START = "P, stat, seal or thread", "P, stat or tree"
 VERB, END, EITHER = "a verb and its parts", "the end of the line", "plain or inherit"
 
 # the parts of the page, as regular expressions

@@ -29,7 +29,7 @@ SESSIONS = {
     ],
     "a line may have a NUL, a CR or too many bytes, and is no script line then": [
         ('p1 dir "\\A\0" - =a', "1: not a script line: column 8, PLACE FLAGS =V"),
-        ("stat\r", "2: not a script line: column 1, P or stat"),
+        ("stat\r", "2: not a script line: column 1, P, stat or tree"),
         ("#" * 262_145, "3: not a script line: column 262145, the end of the line"),
         ("#" * 262_144, ""),
         ("x" * (1 << 24), "5: not a script line: column 262145, the end of the line"),
@@ -39,7 +39,7 @@ SESSIONS = {
         ('p1 make Event "\\E" - "" =e', "1: SUCCESS"),
         ("tree", TREE),
         ("p1 close e", "3: SUCCESS"),
-        ("Tree", "4: not a script line: column 1, P or stat"),
+        ("Tree", "4: not a script line: column 1, P, stat or tree"),
     ],
     "an open is pending from one line to another": [
         ('p1 make Device "\\Device\\D" - "" =d', "1: SUCCESS"),

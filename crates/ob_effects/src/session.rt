@@ -75,7 +75,7 @@ impl Session {
         }
     }
 
-    /// What a tree shows of the namespace as it is, with the opens that are pending. The only error is out of memory. (this profile)
+    /// The survey of the namespace as it is, which a tree shows, with the opens that are pending. The only error is out of memory. (this profile)
     pub fn survey(&self, alloc: Global) -> Result<Survey, AllocError>
         ensures seen { IfOk result (λ survey.
             survey ≡ survey_of standard (space_of self.now)) }

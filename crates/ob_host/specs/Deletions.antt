@@ -1,4 +1,4 @@
--- What the set of a caller's own objects knows: the deletions, how their list grows, and how they are taken from it, one after
+-- The value of the set of a caller's own objects: the deletions, how their list grows, and how they are taken from it, one after
 -- another; and the last serial that a first open drew.
 --
 -- Source: this profile.

@@ -1,4 +1,4 @@
--- What the procedures of a caller's objects see of one.
+-- The part of a caller's object that its procedures see.
 use Rattle.std.specs.Prelude.{ℕ, Bool}
 use Rattle.ob_host.specs.declared.object.HostObject.{HostObject}
 

@@ -1,4 +1,4 @@
-//! What is known of an object that was deleted.
+//! Deletions of a caller's own objects.
 
 ghost use Rattle.std.specs.Prelude.{◌≡◌, IfOk};
 
@@ -6,7 +6,7 @@ use crate::Kind;
 use ob_model::Bytes;
 use std::alloc::{AllocError, Global};
 
-/// What a caller knows of an object of its own that was deleted. (this profile)
+/// A deletion, as the caller knows the object that was deleted. (this profile)
 #[derive(Debug, Drop)]
 pub struct HostDeletion {
     /// Its kind.

@@ -1,4 +1,4 @@
-//! What the procedures change of a caller's object.
+//! The part of a caller's object that the procedures change.
 
 ghost use Rattle.std.specs.Prelude.{◌≡◌, IfOk};
 ghost use Rattle.ob_host.specs.Host.{deletion_of, one_more, unopened};
@@ -9,7 +9,7 @@ use ob_types::Copied;
 use std::alloc::{AllocError, Global};
 use std::marker::Model;
 
-/// What the procedures change of an object: the handles that are open to it, and the serial that its first open drew. The object
+/// The part of an object that the procedures change: the handles that are open to it, and the serial that its first open drew. The object
 /// is beside them, whether a parse made it, and a place for it in the list of the deletions, so that its delete takes no
 /// memory. (this profile)
 #[derive(Drop)]

@@ -1,4 +1,4 @@
-//! What a caller knows of an object of its own.
+//! A caller's own objects.
 
 ghost use Rattle.std.specs.Prelude.{◌≡◌, IfOk};
 ghost use Rattle.std.specs.Cmp.{partial_equiv_from_equiv};
@@ -9,7 +9,7 @@ use crate::Kind;
 use ob_model::Bytes;
 use std::alloc::{AllocError, Global};
 
-/// What a caller knows of an object of its own, which never changes. (this profile)
+/// A caller's own object, as the caller knows it, which never changes. (this profile)
 #[derive(Debug, Drop)]
 pub struct HostObject {
     /// Its kind.

@@ -1,7 +1,8 @@
 -- Lines: the lines of a script.
 --
 -- Source: this profile.
-use Rattle.std.specs.Prelude.{ℕ, ◌==◌, if◌then◌else◌, List, [], ◌∷◌}
+use Rattle.std.specs.Prelude.{◌≡◌, ◌≢◌, ◌⊎◌, ℕ, ◌==◌, if◌then◌else◌, List, [], ◌∷◌, ◌++◌}
+use Rattle.ob_parts.specs.Text.{Lacks}
 
 -- the byte that ends a line, LF
 abbrev pub line_end : ℕ
@@ -17,3 +18,8 @@ onto_first_line b (line ∷ lines) = (b ∷ line) ∷ lines
 abbrev pub lines_of : List ℕ → List (List ℕ)
 lines_of [] = []
 lines_of (b ∷ bytes) = if b == line_end then [] ∷ lines_of bytes else onto_first_line b (lines_of bytes)
+
+-- the first line ends at its LF, or at the end of the bytes; then it has a byte
+pub record IsFirstLine (bytes line rest : List ℕ) : Type 0 where
+  pub lacks : Lacks line_end line
+  pub ends : (bytes ≡ line ++ line_end ∷ rest) ⊎ ((bytes ≡ line) × (rest ≡ []) × (line ≢ []))

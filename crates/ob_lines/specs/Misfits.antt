@@ -97,9 +97,9 @@ abbrev pub sorts_text : List PartForm → LastForm → List ℕ
 sorts_text [] last = last_text last
 sorts_text (part ∷ parts) last = part_text part ++ codes " " ++ sorts_text parts last
 
--- what is expected, in the words of docs/script.md
+-- what is expected, in the words of docs/script.md, where a line may begin as those of a session do
 abbrev pub expected_text : Expected → List ℕ
-expected_text expected.Line = codes "P or stat"
+expected_text expected.Line = codes "P, stat or tree"
 expected_text expected.Verb = codes "a verb and its parts"
 expected_text (expected.Parts parts last) = sorts_text parts.now last
 expected_text expected.End = codes "the end of the line"

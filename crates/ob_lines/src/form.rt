@@ -13,7 +13,7 @@ use ob_parts::take_process;
 /// The most bytes that a line may have, without its LF: 262,144. (this profile)
 pub const LONGEST_LINE: usize = 262_144;
 
-/// What a line is. `T` is how bytes are held: as slices of the line, or, in contracts, as lists.
+/// The form of a line. `T` is how bytes are held: as slices of the line, or, in contracts, as lists.
 #[derive(Clone, Copy, PartialEq, Eq, Debug)]
 pub enum Form<T> {
     /// An empty line or a comment.
@@ -31,14 +31,13 @@ pub enum Form<T> {
     Waits {
         /// The process variable.
         process: T,
-        /// What the line does with the pending open.
+        /// The request for the pending open.
         pending: PendingForm<T>,
     },
 }
 
-/// Whether a line without its LF does nothing: it is empty or a comment, and has at most 262,144 bytes.
-/// Source: this profile.
-pub fn is_idle(line: &[u8]) -> bool
+// Whether a line without its LF does nothing: it is empty or a comment, and has at most 262,144 bytes.
+fn is_idle(line: &[u8]) -> bool
     ensures { IsTrue result ↔ IsLine line.now Form.Nothing }
 {
     line.len() <= LONGEST_LINE && (line.is_empty() || line[0] == b'#')

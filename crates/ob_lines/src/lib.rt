@@ -15,7 +15,7 @@ mod script;
 mod verb;
 
 pub use change::{Change, change_of};
-pub use form::{Form, LONGEST_LINE, form_of, is_idle, lines_have_one_form};
+pub use form::{Form, LONGEST_LINE, form_of, lines_have_one_form};
 pub use misfit::{Expected, Misfit, lines_have_one_misfit, misfit_of};
 pub use ob_parts::{
     HandleForm, KindForm, LastForm, NameForm, Offset, PageMode, PartForm, PlaceForm, decode,

@@ -9,10 +9,10 @@ use crate::form::{LONGEST_LINE, form_of};
 use crate::verb::{Verb, verb_of};
 use ob_parts::{LastForm, PartForm, split_at, stop_of, take_process};
 
-/// What should be where a line stops. (this profile)
+/// The part that should be where a line stops. (this profile)
 #[derive(Clone, Copy, PartialEq, Eq, Debug)]
 pub enum Expected {
-    /// A process variable, or `stat`.
+    /// A process variable, `stat`, or in a session `tree`.
     Line,
     /// A verb and its operands, or `exit` alone.
     Verb,
@@ -32,7 +32,7 @@ pub enum Expected {
 pub struct Misfit {
     /// The column of the first byte that is wrong or missing, from 1.
     pub column: usize,
-    /// What the line should go on with from that byte on.
+    /// The part that the line should go on with from that byte on.
     pub expected: Expected,
 }
 
@@ -58,7 +58,7 @@ pub fn misfit_of(line: &[u8]) -> Option<Misfit>
     })
 }
 
-// What should be where a line stops, and the rest of the line from there on.
+// The part that should be where a line stops, and the rest of the line from there on.
 fn stop_in(line: &[u8]) -> (Expected, &[u8])
     requires short { length line.now ≤ 262144 }
     requires no_form { (form : Form (List ℕ)) → ¬ IsLine line.now form }

@@ -1,4 +1,4 @@
-//! What a line does with a pending open.
+//! Lines for a pending open.
 
 ghost use Rattle.std.specs.Prelude.{◌≡◌, ◌≤◌, ℕ, List, length, IfSome, IfNone};
 ghost use Rattle.ob_lines.specs.declared.pending.PendingForm.{PendingForm};
@@ -6,7 +6,7 @@ ghost use Rattle.ob_lines.specs.Grammar.{IsPending, pending_seen};
 
 use ob_parts::{KindForm, NameForm, behind, is_variable, want_name_flags_and_variable};
 
-/// What a line does with a pending open. `T` is how bytes are held: as slices of the
+/// The request of a line for a pending open. `T` is how bytes are held: as slices of the
 /// line, or, in contracts, as lists. (this profile)
 #[derive(Clone, Copy, PartialEq, Eq, Debug)]
 pub enum PendingForm<T> {
@@ -33,7 +33,7 @@ pub enum PendingForm<T> {
     },
 }
 
-// What a line does with a pending open, after the process variable and a space.
+// The request of a line for a pending open, after the process variable and a space.
 pub fn pending_of(bytes: &[u8]) -> Option<PendingForm<&[u8]>>
     requires { length bytes.now ≤ 262144 }
     ensures found { IfSome result (λ pending. IsPending bytes.now (pending_seen pending)) }

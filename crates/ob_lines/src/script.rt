@@ -1,7 +1,7 @@
 //! The lines of a script, one after another.
 
 ghost use Rattle.std.specs.Prelude.{◌≡◌, ◌<◌, ◌∷◌, [], length, IfSome, IfNone};
-ghost use Rattle.ob_lines.specs.Lines.{lines_of};
+ghost use Rattle.ob_lines.specs.Lines.{IsFirstLine, lines_of};
 ghost use Rattle.ob_lines.specs.Grammar.{FormHasTexts, form_seen};
 ghost use Rattle.ob_lines.specs.Script.{BeginsWithLine, found_seen, HasReading, ScriptsHaveOneReading};
 
@@ -19,7 +19,7 @@ pub fn read_line(script: &[u8]) -> Option<(Option<Form<&[u8]>>, &[u8])>
         BeginsWithLine script.now (found_seen read.0) read.1.now) }
     ensures shorter { IfSome result (λ read. length read.1.now < length script.now) }
 
-    // What the form has for texts are texts, so that each can be decoded.
+    // The form's texts are texts, so that each can be decoded.
     ensures texts { IfSome result (λ read. IfSome read.0 (λ form. FormHasTexts (form_seen form))) }
 
     ensures none { IfNone result (script.now ≡ []) }
@@ -28,10 +28,11 @@ pub fn read_line(script: &[u8]) -> Option<(Option<Form<&[u8]>>, &[u8])>
     Some((form_of(line), rest))
 }
 
-/// The first line of a text, without its LF, and what follows it; none where the text is empty. A line ends at its
+/// The first line of a text, without its LF, and the text after it; none where the text is empty. A line ends at its
 /// LF, or at the text's end. Source: this profile.
 pub fn first_line(bytes: &[u8]) -> Option<(&[u8], &[u8])>
     ensures found { IfSome result (λ x. lines_of bytes.now ≡ x.0.now ∷ lines_of x.1.now) }
+    ensures cut { IfSome result (λ x. IsFirstLine bytes.now x.0.now x.1.now) }
     ensures shorter { IfSome result (λ x. length x.1.now < length bytes.now) }
     ensures none { IfNone result (bytes.now ≡ []) }
 {

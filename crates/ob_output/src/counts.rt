@@ -1,6 +1,6 @@
-//! What a namespace counts.
+//! Counts of a namespace.
 
-/// What a namespace counts, as `stat` prints it. (this profile)
+/// The counts of a namespace, as `stat` prints them. (this profile)
 #[derive(Clone, Copy, PartialEq, Eq, Debug)]
 pub struct Totals {
     /// The objects that there are.

@@ -1,4 +1,4 @@
-//! What is expected where a line stops being a script line, and the line of the output that says so.
+//! Misfits: the part that is expected where a line stops being a script line, and the line of the output that says so.
 
 ghost use Rattle.std.specs.Prelude.{◌≡◌, ◌+◌, ◌*◌, ◌≤◌, ◌++◌, length, vec_len, vec_capacity};
 ghost use Rattle.ob_lines.specs.Misfits.{IsFew, expected_text, sorts_text};
@@ -37,7 +37,7 @@ pub fn push_expected(block: &mut Vec<u8>, expected: Expected)
     ensures capacity { vec_capacity block.old ≤ vec_capacity block.new }
 {
     match expected {
-        Expected::Line => push_text(block, b"P or stat"),
+        Expected::Line => push_text(block, b"P, stat or tree"),
         Expected::Verb => push_text(block, b"a verb and its parts"),
         Expected::Parts { parts, last } => push_sorts(block, parts, last),
         Expected::End => push_text(block, b"the end of the line"),

@@ -27,7 +27,7 @@ pub enum Offset {
 pub struct HandleForm<T> {
     /// The handle variable.
     pub variable: T,
-    /// What is added to its value.
+    /// The number that is added to its value.
     pub offset: Offset,
 }
 
@@ -65,7 +65,7 @@ fn offset_of(number: &[u8]) -> Option<Offset>
     }
 }
 
-/// What is added to the value of a handle variable: 0 to 3. Source: this profile.
+/// The number that is added to the value of a handle variable: 0 to 3. Source: this profile.
 pub fn offset_value(offset: Offset) -> u32
     ensures { result ≡ offset_value offset }
 {

@@ -37,7 +37,7 @@ pub fn take_kind(bytes: &[u8]) -> Option<(KindForm, &[u8])>
     Some((kind, rest))
 }
 
-// What an open wants, with which the bytes begin, and what follows it and a space: a kind, or
+// The wanted kind of an open, with which the bytes begin, and the bytes after it and a space: a kind, or
 // none for `any`.
 pub fn take_want(bytes: &[u8]) -> Option<(Option<KindForm>, &[u8])>
     ensures found { IfSome result (λ found. BeginsWithWant bytes.now found.0 found.1.now) }

@@ -113,7 +113,7 @@ pub fn stop_of<'a, 'b>(
     }
 }
 
-// What follows the part of this sort, with which the bytes begin, and a space.
+// The bytes after the part of this sort, with which they begin, and a space.
 fn rest_after(part: PartForm, bytes: &[u8]) -> Option<&[u8]>
     requires { length bytes.now ≤ 262144 }
     ensures found { IfSome result (λ rest. BeginsWithPart part bytes.now rest.now) }

@@ -5,7 +5,7 @@ ghost use Rattle.ob_parts.specs.Text.{Lacks};
 
 use memchr::memchr;
 
-/// What precedes the first byte of this value, and what follows it: none where the bytes have no such
+/// The bytes before the first byte of this value, and those after it: none where the bytes have no such
 /// byte. Source: this profile.
 pub fn split_at(bytes: &[u8], mark: u8) -> Option<(&[u8], &[u8])>
     ensures found { IfSome result (λ parts. (bytes.now ≡ parts.0.now ++ (mark ∷ parts.1.now))
@@ -16,7 +16,7 @@ pub fn split_at(bytes: &[u8], mark: u8) -> Option<(&[u8], &[u8])>
     Some((&bytes[..place], &bytes[place + 1..]))
 }
 
-/// What follows a front: none where the bytes begin otherwise. Source: this profile.
+/// The bytes after a front: none where the bytes begin otherwise. Source: this profile.
 pub fn behind<'a>(bytes: &'a [u8], front: &[u8]) -> Option<&'a [u8]>
     ensures found { IfSome result (λ rest. bytes.now ≡ front.now ++ rest.now) }
     ensures none { IfNone result ((rest : List ℕ) → bytes.now ≢ front.now ++ rest) }
@@ -24,7 +24,7 @@ pub fn behind<'a>(bytes: &'a [u8], front: &[u8]) -> Option<&'a [u8]>
     bytes.strip_prefix(front)
 }
 
-// What follows one byte: none where the bytes don't begin with it.
+// The bytes after one byte: none where the bytes don't begin with it.
 pub(crate) fn behind_byte(bytes: &[u8], mark: u8) -> Option<&[u8]>
     ensures found { IfSome result (λ rest. bytes.now ≡ mark ∷ rest.now) }
     ensures none { IfNone result ((rest : List ℕ) → bytes.now ≢ mark ∷ rest) }

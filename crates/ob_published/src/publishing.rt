@@ -1,4 +1,4 @@
-//! What publishes a namespace.
+//! Publishers of a namespace.
 
 ghost use Rattle.std.specs.Prelude.{◌≡◌, ◌++◌, ◌∷◌, [], IfErr, IfOk, IsFalse, OnOk, OnErr, IsTrue};
 ghost use Rattle.ob_published.specs.Publications.{total_entries};
@@ -8,7 +8,7 @@ use crate::{Publication, Published, Showing};
 use std::alloc::AllocError;
 use std::sync::Wait;
 
-/// What publishes a namespace to others. Contracts see it as the publications that are recorded, and those of them that are
+/// A publisher of a namespace. Contracts see it as the publications that are recorded, and those of them that are
 /// shown. [`Showing`] shows them to viewers; `()` publishes nothing. (this profile)
 pub trait Publishing: Drop {
     ghost use Rattle.std.specs.Prelude.{List};

@@ -1,4 +1,4 @@
-//! What holds of requests and variables.
+//! Laws of requests and variables.
 //!
 //! Each function has an empty body: its contract is a law about the definitions alone.
 

@@ -1,9 +1,9 @@
-//! What is kept for a handle variable, and what is written of it.
+//! Rows of handle variables, and the parts of them that are written.
 
 ghost use Rattle.std.specs.Prelude.{◌≡◌};
 ghost use Rattle.ob_requests.specs.Rows.{no_row, written};
 
-/// What is kept for a handle variable of a process: zeros where it was never set. (this profile)
+/// The row of a handle variable of a process: zeros where it was never set. (this profile)
 #[derive(Clone, Copy)]
 pub struct Variable {
     /// Its value.
@@ -14,7 +14,7 @@ pub struct Variable {
     pub ticket: u64,
 }
 
-// What is written of a row. (this profile)
+// The part of a row that is written. (this profile)
 #[derive(Clone, Copy)]
 pub(crate) enum Write {
     // A value, and no context.
@@ -27,7 +27,7 @@ pub(crate) enum Write {
     Alone,
 }
 
-// What is kept for a variable that was never set.
+// The row of a variable that was never set.
 pub(crate) fn no_row() -> Variable
     ensures { result ≡ no_row }
 {

@@ -35,7 +35,7 @@ impl VariableTables {
         }
     }
 
-    // What is kept for a variable of a process.
+    // The row of a variable of a process.
     #[inline(always)]
     pub(crate) fn row_of(&self, process: u32, variable: &[u8]) -> Variable
         ensures { result ≡ rows_in self.now process variable.now }

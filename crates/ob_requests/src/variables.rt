@@ -26,7 +26,7 @@ pub struct Variables {
     pub alloc: Global,
     /// The process variables.
     pub processes: Table<u32>,
-    /// What is kept for the handle variables of each process.
+    /// The rows of the handle variables of each process.
     pub handles: VariableTables,
     /// The slot of the process variable that was set last, or given room. A process variable is looked for there first, so that
     /// any number gives the same variables.

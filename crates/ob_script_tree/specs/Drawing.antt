@@ -1,4 +1,4 @@
--- What a script leaves, and the tree that is drawn of it.
+-- The namespace that a script leaves, and the tree that is drawn of it.
 --
 -- Source: this profile.
 use Rattle.std.specs.Prelude.{◌≡◌, ℕ, ◌+◌, List, [], ◌∷◌, Option, None, Some}

@@ -33,7 +33,7 @@ pub fn run_tree<R: Read, W: Write>(
     writer: &mut W,
     picture: Picture,
 ) -> Result<Ending, ShellFault>
-    // What was written is the tree that the script leaves.
+    // The written text is the tree that the script leaves.
     ensures drawn { IfOk result (λ ending. IfSome (R.remaining reader.old) (λ script.
         DrawsTo picture (W.contents writer.old) (W.contents writer.new) script ending)) }
 

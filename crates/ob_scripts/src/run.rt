@@ -14,7 +14,7 @@ ghost use Rattle.ob_scripts.specs.Running.{outcome_text, outcome_end, GathersRun
 
 use crate::printing::write_outcome;
 use ob_effects::{LineOutcome, Session};
-use ob_lines::{first_line, form_of, is_idle};
+use ob_lines::{first_line, form_of};
 use ob_output::{SCRIPT_LIMIT, ShellFault, Unwritten, read_script, write_out};
 use std::alloc::Global;
 use std::io::{Read, Write};
@@ -181,9 +181,6 @@ pub fn perform_line(session: &mut Session, line: &[u8]) -> LineOutcome
         × IsDone form (variables_of session.old) (space_of session.old) result
         (variables_of session.new) (space_of session.new) }
 {
-    if is_idle(line) {
-        return LineOutcome::Idle;
-    }
     session.perform(form_of(line))
 }
 

@@ -1,4 +1,4 @@
--- What publishes the history under the lock, and what it keeps of that history.
+-- The publisher of the history under the lock, and its copy of that history's rows.
 --
 -- Source: this profile.
 use Rattle.std.specs.Prelude.{◌≡◌, ◌⊎◌, ℕ, List, ◌++◌, length}
@@ -40,7 +40,7 @@ pub record IsNamed {K T F I : Type 0} (g : Procedures K T F I) (first_rows : Lis
 abbrev pub AreOf : {K T F I : Type 0} → Procedures K T F I → List Publication → History K T F I → Type 0
 AreOf g publications h = Leads g (opening h.first) 0 publications (whole h.journal) h.state
 
--- What a publisher keeps of a history: the publications that are recorded lead through its first entries, and the other entries lead
+-- This holds of a publisher and a history: the publications that are recorded lead through its first entries, and the other entries lead
 -- from there to its state; the changes of the copy that are not published yet lead from the rows there to the copy's; and the copy follows the
 -- state.
 pub record Keeps {K T F I : Type 0} (g : Procedures K T F I) (first_rows : List Row) (leads : List Publication → Type 0) (mirror : Mirrored) (recorded : List Publication) (h : History K T F I) : Type 0 where

@@ -101,7 +101,7 @@ impl StandardCore {
         }
     }
 
-    /// What a tree shows of the namespace as it is. The only error is out of memory. (this profile)
+    /// The survey of the namespace as it is, which a tree shows. The only error is out of memory. (this profile)
     pub fn survey(&self, alloc: Global) -> Result<Survey, AllocError>
         ensures seen { IfOk result (λ survey. survey ≡ survey_of standard self.now) }
         ensures rise { IfOk result (λ survey. Rise survey.objects) }

@@ -1,4 +1,4 @@
--- What a tree shows of a namespace, as one JSON value.
+-- The survey of a namespace as one JSON value.
 --
 -- Sources: RFC 8259 for JSON, as `serde_json` writes it without blanks; the keys are this profile.
 use Rattle.std.specs.Prelude.{ℕ, List, [], ◌∷◌, ◌++◌, Option, None, Some, codes, encode_utf8, option_map}

@@ -1,4 +1,4 @@
-//! What a tree shows of a namespace, as one JSON value for tools.
+//! The survey of a namespace as one JSON value for tools.
 #![tactic(auto)]
 
 mod members;

@@ -5,7 +5,7 @@ use Rattle.ob_parts.specs.Text.{Lacks}
 use Rattle.ob_lines.specs.Lines.{line_end, lines_of, onto_first_line}
 use Rattle.ob_lines.proofs.Lined.{lines_of-line, lines_of-whole}
 use Rattle.ob_worker_lines.specs.Cuts.{Lines, IsSeatLine, AreSeatLines}
-use Rattle.ob_worker_lines.specs.Parts.{IsFirstLine, IsSeatLineBefore}
+use Rattle.ob_worker_lines.specs.Parts.{IsSeatLineBefore}
 
 -- a script has no more lines than bytes
 pub length-lines_of : (bytes : List ℕ) → length (lines_of bytes) ≤ length bytes
@@ -17,18 +17,9 @@ length-lines_of (b ∷ bytes) = go (eqb b line_end) (lines_of bytes) (length-lin
     go false [] l = omega arith
     go false (line ∷ lines) l = omega (arith, l)
 
--- the first line, and the lines behind it
 first_not_empty : (line : List ℕ) → line ≢ [] → length line ≡ 0 → ⊥
 first_not_empty [] some e = some refl
 first_not_empty (b ∷ line) some e = omega (arith, e)
-
-pub lines_of-first : (bytes line rest : List ℕ) → IsFirstLine bytes line rest → lines_of bytes ≡ line ∷ lines_of rest
-lines_of-first bytes line rest f = go f.ends
-  where
-    go : (bytes ≡ line ++ line_end ∷ rest) ⊎ ((bytes ≡ line) × (rest ≡ []) × (line ≢ [])) → lines_of bytes ≡ line ∷ lines_of rest
-    go (inl e) = ap lines_of e ∙ lines_of-line line rest f.lacks
-    go (inr (e, none, some)) =
-        ap lines_of e ∙ (lines_of-whole line (first_not_empty line some) f.lacks ∙ ap (λ (r : List ℕ). line ∷ lines_of r) (sym none))
 
 -- the text is whole lines: what is put behind it has lines of its own
 abbrev pub IsWhole : List ℕ → Type 0

@@ -2,8 +2,7 @@
 --
 -- Source: this profile.
 use Rattle.std.specs.Prelude.{◌≡◌, ◌≢◌, ◌⊎◌, ℕ, ◌+◌, ◌≤◌, Bool, true, false, List, [], ◌∷◌, ◌++◌, length, map, Some, All}
-use Rattle.ob_parts.specs.Text.{Lacks}
-use Rattle.ob_lines.specs.Lines.{line_end, lines_of}
+use Rattle.ob_lines.specs.Lines.{IsFirstLine, lines_of}
 use Rattle.ob_worker_lines.specs.declared.form.SeatForm.{SeatForm}
 use Rattle.ob_worker_lines.specs.declared.part.Part.{Part}
 use Rattle.ob_worker_lines.specs.declared.script.CutFault.{CutFault}
@@ -45,11 +44,6 @@ IsFault lines Memory = Unit {0}
 abbrev pub LinesAreRead : Type 0
 LinesAreRead =
     (text : List ℕ) → AreSeatLines (lines_of text) → (forms : List (SeatForm (List ℕ))) × BeginsWithSeatForms text (map Some forms) []
-
--- the first line ends at its LF, or at the end of the bytes; then it has a byte
-pub record IsFirstLine (bytes line rest : List ℕ) : Type 0 where
-  pub lacks : Lacks line_end line
-  pub ends : (bytes ≡ line ++ line_end ∷ rest) ⊎ ((bytes ≡ line) × (rest ≡ []) × (line ≢ []))
 
 -- the first line is a line of a seat, and the rest follows it
 abbrev pub IsSeatLineBefore : List ℕ → List ℕ → Type 0

@@ -14,7 +14,7 @@ ghost use Rattle.ob_worker_lines.specs.Forms.{
 
 use ob_lines::{Form, first_line, form_of};
 
-/// What a line of a seat is. `B` is how bytes are held: as slices of the line, or, in contracts, as lists. (this profile)
+/// The form of a seat's line. `B` is how bytes are held: as slices of the line, or, in contracts, as lists. (this profile)
 #[derive(Clone, Copy, PartialEq, Eq, Debug)]
 pub enum SeatForm<B> {
     /// `seal`: the open segment of the journal is sealed.
@@ -33,7 +33,7 @@ pub fn read_seat_line(script: &[u8]) -> Option<(Option<SeatForm<&[u8]>>, &[u8])>
         BeginsWithSeatLine script.now (seat_found_seen read.0) read.1.now) }
     ensures shorter { IfSome result (λ read. length read.1.now < length script.now) }
 
-    // What the form has for texts are texts, so that each can be decoded.
+    // The form's texts are texts, so that each can be decoded.
     ensures texts { IfSome result (λ read.
         IfSome read.0 (λ form. SeatFormHasTexts (seat_form_seen form))) }
 

@@ -23,12 +23,12 @@ pub const MOST_WORKERS: usize = 63;
 /// A script with workers, cut into the lines of its seats. (this profile)
 #[derive(Debug, Drop)]
 pub struct WorkerScript<'a> {
-    /// What seat 0 runs before any worker: the lines before the first `thread`.
+    /// The part that seat 0 runs before any worker: the lines before the first `thread`.
     pub before: Part<'a>,
-    /// What the workers run, those of seats 1, 2 and so on: for each `thread` the lines after it. At
+    /// The parts that the workers run, those of seats 1, 2 and so on: for each `thread` the lines after it. At
     /// most 63.
     pub workers: Vec<Part<'a>>,
-    /// What seat 0 runs after all workers: the lines after `join`; none where there is no `join`.
+    /// The part that seat 0 runs after all workers: the lines after `join`; none where there is no `join`.
     pub behind: Part<'a>,
 }
 
