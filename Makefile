@@ -50,6 +50,7 @@ bench: build lib
 	bench/threads.py crates/callers/out/callers
 	bench/viewers.py crates/viewers/out/viewers
 	bench/calls.py 100000
+	bench/beside.py
 
 hostile: build
 	gate/refusals.py crates/ntns/out/ntns $(if $(filter command environment,$(firstword $(origin SCRIPT))),$(SCRIPT),--long)
