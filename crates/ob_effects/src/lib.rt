@@ -3,10 +3,12 @@
 
 mod asking;
 mod notice;
+mod opening;
 mod outcome;
 mod session;
 mod waiting;
 
 pub use notice::Notice;
+pub use opening::{OpenForm, keep_reply, open_command};
 pub use outcome::LineOutcome;
 pub use session::Session;

@@ -14,12 +14,13 @@ ghost use Rattle.ob_requests.specs.Variables.{with_ticket};
 ghost use Rattle.ob_effects.specs.Waiting.{variables_answered};
 
 use crate::notice::Notice;
+use crate::opening::{OpenForm, keep_reply, open_command};
 use crate::outcome::LineOutcome;
 use crate::session::Session;
 use ob_base::{Proc, Status};
-use ob_lines::{KindForm, NameForm, PendingForm, Request};
+use ob_lines::PendingForm;
 use ob_model::{Given, Reply};
-use ob_requests::{Asker, Variables, command_of, given_handle};
+use ob_requests::Variables;
 use ob_standard_core::{Begun, StandardCore, StandardWaits};
 use std::alloc::AllocError;
 
@@ -112,9 +113,6 @@ impl Session {
     }
 }
 
-// The request of an open: the kind that is wanted, the name and the flags.
-type OpenForm<'a> = (Option<KindForm>, NameForm<&'a [u8]>, u32);
-
 // The outcome of a line, by what became of its open.
 fn outcome_of(begun: Result<Begun, AllocError>) -> LineOutcome
     ensures { result ≡ outcome_of begun }
@@ -149,15 +147,7 @@ fn begin_under(
         (variables_in variables.new) core.new) }
     ensures kept { OnErr result (tickets_of waits.new ≡ tickets_of waits.old) }
 {
-    variables.room_for_variable(process, variable)?;
-    let (want, name, attrs) = asked;
-    let request = Request::OpenObject {
-        want,
-        name,
-        attrs,
-        variable,
-    };
-    let command = command_of(&Asker { variables, process }, &request)?;
+    let command = open_command(variables, process, asked, variable)?;
     let begun = waits.begin(core, process, &command)?;
     keep(variables, process, variable, &begun);
     Ok(begun)
@@ -208,10 +198,7 @@ fn keep(variables: &mut Variables, process: Proc, variable: &[u8], begun: &Begun
         ≡ variables_answered (variables_in variables.old) process variable.now (answer_in begun.now) }
 {
     match begun {
-        Begun::Replied(reply) => {
-            variables.set_handle(process, variable, given_handle(&reply.given));
-            variables.clear_ticket(process, variable);
-        }
+        Begun::Replied(reply) => keep_reply(variables, process, variable, reply),
         Begun::Waits(ticket) => variables.set_ticket(process, variable, *ticket),
     }
 }

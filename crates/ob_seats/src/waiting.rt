@@ -1,17 +1,14 @@
 //! Opens of a seat that wait under its variables.
 
 ghost use Rattle.std.specs.Prelude.{◌≡◌, ◌≢◌, ◌∷◌, ◌++◌, [], ℕ, IfOk, IfErr, OnErr, OnOk};
-ghost use Rattle.ob_model.specs.declared.reply.Answer.TheVariants.{Done};
 ghost use Rattle.ob_model.specs.Run.{Entry};
 ghost use Rattle.ob_standard.specs.Standard.{StandardKind as StandardKinds};
 ghost use Rattle.ob_parts.specs.Parts.{name_seen, text_of};
 ghost use Rattle.ob_parts.specs.Text.{IsText};
 ghost use Rattle.ob_lines.specs.Grammar.{PendingHasTexts, pending_seen};
 ghost use Rattle.ob_lines.specs.declared.pending.PendingForm.TheVariants.{Begin, End, Drop};
-ghost use Rattle.ob_requests.specs.Commands.{IsOpenObject};
 ghost use Rattle.ob_requests.specs.Tables.{variables_in, HasRoom};
 ghost use Rattle.ob_requests.specs.Variables.{with_ticket};
-ghost use Rattle.ob_effects.specs.Waiting.{variables_answered};
 ghost use Rattle.ob_seats.specs.Received.{Entries};
 ghost use Rattle.ob_seats.specs.Played.{IsStepPlayed, IsWaitPlayed};
 ghost use Rattle.ob_seats.specs.Stopped.{IsAbandoned, IsNotKept, IsStepBegun, IsWaitBegun};
@@ -21,14 +18,9 @@ use crate::callers::{CallOutcome, Callers};
 use crate::stop::Stop;
 use crate::waits::SeatWaits;
 use ob_base::Proc;
-use ob_lines::{KindForm, NameForm, PendingForm, Request};
-use ob_model::{Command, Reply};
-use ob_requests::{Asker, Variables, command_of, given_handle};
-use ob_standard::StandardKind;
-use std::alloc::AllocError;
-
-/// The request of an open: the kind that is wanted, the name and the flags.
-type OpenForm<'a> = (Option<KindForm>, NameForm<&'a [u8]>, u32);
+use ob_effects::{OpenForm, keep_reply, open_command};
+use ob_lines::PendingForm;
+use ob_requests::Variables;
 
 /// Does what a line of a process says of an open that waits.
 pub(crate) fn carry_on<C: Callers>(
@@ -191,7 +183,7 @@ fn begin<C: Callers>(
         (variables_in variables.old) entries why (variables_in variables.new)) }
     ensures seat { C.seat_of (result.0) ≡ C.seat_of pass }
 {
-    match prepare(variables, process, asked, variable) {
+    match open_command(variables, process, asked, variable) {
         Err(_) => (pass, Err(Stop::Memory)),
         Ok(command) => {
             let (pass, begun) = callers.start(pass, process, &command);
@@ -207,40 +199,6 @@ fn begin<C: Callers>(
             }
         }
     }
-}
-
-/// The command of an open, with room for what becomes of it under a variable.
-fn prepare(
-    variables: &mut Variables,
-    process: Proc,
-    asked: OpenForm<'_>,
-    variable: &[u8],
-) -> Result<Command<StandardKind>, AllocError>
-    requires text { IsText (text_of (name_seen (asked.1))) }
-    ensures command { IfOk result (IsOpenObject (asked.entry.0) (name_seen (asked.entry.1))
-        (asked.entry.2) ((variables_in variables.old).values process)) }
-    ensures room { OnOk result (HasRoom variables.new.handles process variable.now) }
-    ensures same { variables_in variables.new ≡ variables_in variables.old }
-{
-    variables.room_for_variable(process, variable)?;
-    let (want, name, attrs) = asked;
-    let request = Request::OpenObject {
-        want,
-        name,
-        attrs,
-        variable,
-    };
-    command_of(&Asker { variables, process }, &request)
-}
-
-/// Keeps the reply of an open under its variable: the handle that was given, or 0, and no open waits there any longer.
-fn keep_reply(variables: &mut Variables, process: Proc, variable: &[u8], reply: &Reply)
-    requires room { HasRoom variables.old.handles process variable.now }
-    ensures { variables_in variables.new
-        ≡ variables_answered (variables_in variables.old) process variable.now (Done reply.now) }
-{
-    variables.set_handle(process, variable, given_handle(&reply.given));
-    variables.clear_ticket(process, variable);
 }
 
 /// Keeps the parse of an open that waits under a variable, under which no other does any longer. Where it can't be kept, the open is given up.

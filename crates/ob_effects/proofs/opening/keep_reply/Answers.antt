@@ -2,7 +2,7 @@
 use Rattle.std.proofs.Common.{ap, ◌∙◌}
 use Rattle.ob_requests.specs.Tables.{variables_in}
 use Rattle.ob_requests.specs.Variables.{Variables, with_variable, with_ticket}
-use Rattle.ob_seats.proofs.waiting.keep_reply.Goals as goal
+use Rattle.ob_effects.proofs.opening.keep_reply.Goals as goal
 
 pub returns : goal.returns
 returns c =

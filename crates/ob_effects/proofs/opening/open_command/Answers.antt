@@ -3,7 +3,7 @@ use Rattle.std.proofs.Common.{IfOk, subst}
 use Rattle.ob_parts.specs.Parts.{name_seen}
 use Rattle.ob_requests.specs.Commands.{IsOpenObject}
 use Rattle.ob_requests.specs.Variables.{Variables}
-use Rattle.ob_seats.proofs.waiting.prepare.Goals as goal
+use Rattle.ob_effects.proofs.opening.open_command.Goals as goal
 
 pub returns-clause-command : goal.returns-clause-command
 returns-clause-command c =
