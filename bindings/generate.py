@@ -90,7 +90,7 @@ class Call(NamedTuple):
 
 
 def declared(text):
-    """What a parameter or a field says."""
+    """The parts of a parameter or a field."""
     found = re.fullmatch(r"(const )?(?:struct )?(\w+) (\*?)(\w+)(?:\[(\d+)\])?", " ".join(text.split()))
     if not found:
         sys.exit(f"bindings/generate.py: the header has {text.strip()!r}, which isn't read yet")
@@ -133,7 +133,7 @@ def python_struct(struct):
 
 
 def python_call(call):
-    """What stands of a call in Python: its result, and its parameters."""
+    """A call in Python: its result, and its parameters."""
     result = {"void": "None", "const char *": "c_char_p"}.get(call.result) or in_python(call.result)
     return f'    "{call.name}": ({result}, [{", ".join(it.python() for it in call.parameters)}]),\n'
 

@@ -24,7 +24,7 @@ fn copied(host: &Host) -> Option<Host> {
     Some(Host { core })
 }
 
-/// What a command of process 1 is replied; none where memory runs out, or an open waits, which is given up.
+/// The reply to a command of process 1; none where memory runs out, or an open waits, which is given up.
 fn replied(host: &mut Host, command: &Command<Kind>) -> Option<Reply> {
     match host.core.start(Proc(1), command) {
         Ok(Started::Done(reply)) => Some(reply),
@@ -74,7 +74,7 @@ fn closed(host: &mut Host, handle: Handle) -> Option<u64> {
     Some(host.core.take_next()?.user_data)
 }
 
-/// What is counted of a namespace: its objects, their names, and its handles.
+/// The counts of a namespace: its objects, their names, and its handles.
 fn counts(host: &Host) -> (usize, usize, usize) {
     (host.core.objects(), host.core.names(), host.core.handles())
 }

@@ -13,7 +13,7 @@ abbrev pub onto_first_line : ℕ → List (List ℕ) → List (List ℕ)
 onto_first_line b [] = (b ∷ []) ∷ []
 onto_first_line b (line ∷ lines) = (b ∷ line) ∷ lines
 
--- The lines of a script, each without its LF. What follows the last LF is a line where it has a byte:
+-- The lines of a script, each without its LF. The bytes after the last LF are a line where there are any:
 -- so the last LF may be missing, and an empty script has no line.
 abbrev pub lines_of : List ℕ → List (List ℕ)
 lines_of [] = []

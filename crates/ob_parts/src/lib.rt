@@ -2,7 +2,7 @@
 //!
 //! A part is a variable, a text, a handle, a name, a place, a kind, flags, a room, a mode, an inheritance, or the
 //! variable that is set. A parser finds a part at the front of bytes, where there is one, and gives what follows
-//! it and a space; or it finds several parts after one another, up to the end. What is found names its
+//! it and a space; or it finds several parts after one another, up to the end. A found part has its
 //! variables and texts as slices of the line. Nothing here knows which lines there are. docs/script.md has the
 //! language.
 #![tactic(auto)]

@@ -87,7 +87,7 @@ fn room_of(spelled: &[u8]) -> Option<u32>
     }
 }
 
-// The number that decimal digits write of which the first is no zero. What begins so has no sign, which
+// The number that decimal digits write of which the first is no zero. Such digits have no sign, which
 // `parse` would take.
 fn number_of(digits: &[u8]) -> Option<u32>
     requires { 49 ≤ slice_index digits.now 0 }

@@ -54,7 +54,7 @@ impl Plain<Publication, Publication, u64> for Add {
     ghost state = { λ publication. None };
 }
 
-/// Which namespace publishes: the book in which its publications stand, the rows before the first of them, and what
+/// Which namespace publishes: the book of its publications, the rows before the first of them, and what
 /// holds of all publications that are made. It exists in the proofs alone: a caller of the program picks it.
 pub trait Naming {
     ghost use Rattle.std.specs.Prelude.{List};
@@ -79,7 +79,7 @@ impl Naming for Brand {
     ghost leads = { λ publications. Unit {0} };
 }
 
-/// A book in which no publication stands, and which has no name yet.
+/// A book that has no publication and no name yet.
 #[derive(Drop)]
 pub struct Opened {
     head: Word<Publication, u64, Law>,

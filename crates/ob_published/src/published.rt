@@ -14,7 +14,7 @@ use std::marker::{Model, PhantomData};
 const MOST: u64 = 1 << 62;
 
 /// The first publications of a namespace, so many as are known: a prefix of the history, which a publish returns, a
-/// viewer sees, and threads tell one another. A contract sees it as the list of these publications. Of two that are
+/// viewer sees, and threads hand to one another. A contract sees it as the list of these publications. Of two that are
 /// made one is a prefix of the other. (this profile)
 #[derive(Drop)]
 pub struct Published<J: Naming> {

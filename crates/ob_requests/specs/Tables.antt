@@ -20,7 +20,7 @@ module _ {N : Type 0} where
   abbrev pub number_among : N → List (SmallVec ℕ × N) → List ℕ → N
   number_among none entries variable = unwrap_or (lookup (λ key. bytes_eq variable key.items) entries) none
 
-  -- the entry of a variable stands in this slot
+  -- the entry of a variable is in this slot
   abbrev pub IsIn : List (SmallVec ℕ × N) → ℕ → List ℕ → Type 0
   IsIn entries slot variable = (entry : SmallVec ℕ × N) × (slice_get entries slot ≡ Some entry) × (bytes_eq variable entry.0.items ≡ true)
 
@@ -33,7 +33,7 @@ module _ {S N : Type 0} where
   abbrev pub has_variable : IndexMap (SmallVec ℕ) N S → List ℕ → Bool
   has_variable table variable = is_some (lookup (λ key. bytes_eq variable key.items) table.entries)
 
-  -- where a variable stands: its slot, or none where there is no room for it
+  -- the place of a variable: its slot, or none where there is no room for it
   abbrev pub IsSlotOf : IndexMap (SmallVec ℕ) N S → List ℕ → Option ℕ → Type 0
   IsSlotOf table variable None = has_variable table variable ≡ false
   IsSlotOf table variable (Some slot) = IsIn table.entries slot variable

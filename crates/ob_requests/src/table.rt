@@ -14,7 +14,7 @@ use std::alloc::{AllocError, Global};
 /// Variables, and what is kept for each: for a process variable its number, and 0 where it has none; for a handle variable its [row](Variable). (this profile)
 pub type Table<N> = IndexMap<VariableName, N>;
 
-// The number of a variable: `none` where it was never set. It is looked for first in a slot where it may stand.
+// The number of a variable: `none` where it was never set. It is looked for first in a slot where it may be.
 #[inline(always)]
 pub(crate) fn number_of<N: Copy>(table: &Table<N>, guess: usize, variable: &[u8], none: N) -> N
     ensures { result ≡ number_or none table.now variable.now }
@@ -35,7 +35,7 @@ fn searched_number<N: Copy>(table: &Table<N>, variable: &[u8], none: N) -> N
     table.get(Sought { variable }).copied().unwrap_or(none)
 }
 
-// The slot of a variable, where there is room for it. It is looked for first in a slot where it may stand.
+// The slot of a variable, where there is room for it. It is looked for first in a slot where it may be.
 #[inline(always)]
 fn slot_of<N>(table: &Table<N>, guess: usize, variable: &[u8]) -> Option<usize>
     ensures { IsSlotOf table.now variable.now result }
@@ -54,7 +54,7 @@ fn searched_slot<N>(table: &Table<N>, variable: &[u8]) -> Option<usize>
     table.get_index_of(Sought { variable })
 }
 
-// Whether a variable stands in a slot.
+// Whether a variable is in a slot.
 #[inline(always)]
 fn is_in<N>(table: &Table<N>, slot: usize, variable: &[u8]) -> bool
     ensures { IsTrue result → IsIn table.now.entries slot variable.now }

@@ -229,7 +229,7 @@ impl<T: TypeSet, H: HandleTable, L: Ledger, P: Publishing> Shared<T, H, L, P> {
     }
 
     /// Publishes the namespace as it is: from now on viewers see its rows. The publications that it returns are those of the whole journal, in
-    /// which the pass's last receipt stands. A publish isn't a step: it adds no entry, and returns the pass as it is.
+    /// which the pass's last receipt is. A publish isn't a step: it adds no entry, and returns the pass as it is.
     ///
     /// At a fault viewers see what they saw, or what an earlier publish failed to show, and the next publish catches up. It is
     /// `InvalidParameter` if the pass is a stranger's, or if nothing is published here, as after [`open_shared`]; else `Memory`. (this

@@ -49,8 +49,8 @@ LinesAreRead =
 abbrev pub IsSeatLineBefore : List ℕ → List ℕ → Type 0
 IsSeatLineBefore bytes rest = (line : List ℕ) × IsFirstLine bytes line rest × IsSeatLine line
 
--- what follows the lines of the workers is this part: at the end an empty one, else one after `join`. What follows
--- begins with the line of this number.
+-- the lines after those of the workers are this part: at the end an empty one, else one after `join`. The lines after
+-- the workers begin with the line of this number.
 abbrev pub IsBehind : Bool → Lines → ℕ → Part → Type 0
 IsBehind has_workers lines number part =
     ((lines ≡ []) × (lines_in part ≡ []) × (part.first ≡ number))

@@ -1,7 +1,7 @@
 //! Scripts with workers: their lines, cut into the lines of each seat.
 //!
-//! In such a script the lines `thread`, `join` and `seal` may be beside those of a script without workers. What
-//! is before the first `thread` and after `join` is seat 0's; each `thread` begins the lines of one
+//! In such a script the lines `thread`, `join` and `seal` may be beside those of a script without workers. The part
+//! before the first `thread` and the one after `join` are seat 0's; each `thread` begins the lines of one
 //! worker; `seal` is a line of the seat among whose lines it is. A script is cut whole, before any line of it
 //! runs, or the fault says which line is the first that is in no such script. Nothing here knows what the lines do.
 //! docs/script.md has the language.

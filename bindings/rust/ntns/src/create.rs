@@ -3,7 +3,7 @@
 use crate::{Attribute, Handle, Process, Status, Type};
 use ntns_sys as raw;
 
-/// What is created.
+/// The kind of an object that is created.
 #[derive(Clone, Copy)]
 pub(crate) enum Kind<'t> {
     Directory,
