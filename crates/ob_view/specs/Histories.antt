@@ -1,0 +1,24 @@
+-- The history whose state a viewer sees.
+--
+-- Source: this profile.
+use Rattle.std.specs.Prelude.{◌≡◌, ℕ, Bool, List, Option, length}
+use Rattle.ob_model.specs.declared.state.Row.{Row}
+use Rattle.ob_model.specs.Procedures.{Procedures}
+use Rattle.ob_model.specs.Run.{Run}
+use Rattle.ob_segments.specs.Journal.{whole}
+use Rattle.ob_locked.specs.Locked.{History}
+use Rattle.ob_published.specs.declared.publication.Publication.{Publication}
+use Rattle.ob_published.specs.Publications.{published_rows, total_entries}
+use Rattle.ob_shared.specs.Publisher.{AreOf, IsNamed}
+
+-- the history is that of a run, and has these rows and so many entries
+pub record IsSeen {K T F I : Type 0} (g : Procedures K T F I) (rows : List Row) (entries : ℕ) (h : History K T F I) : Type 0 where
+  pub run : Run g h.first (whole h.journal) h.state
+  pub rows : h.state.rows ≡ rows
+  pub number : length (whole h.journal) ≡ entries
+
+-- the publications of a namespace of the machine are those of a history that has the published rows and as many entries
+abbrev pub ViewersSeeHistories : (K T F I : Type 0) → Type 0
+ViewersSeeHistories K T F I =
+    (g : Procedures K T F I) (opening : List Row) (leads : List Publication → Type 0) → IsNamed g opening leads → (publications : List Publication) → leads publications
+    → (h : History K T F I) × AreOf g publications h × IsSeen g (published_rows opening publications) (total_entries publications) h
