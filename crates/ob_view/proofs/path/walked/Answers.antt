@@ -1,5 +1,5 @@
 -- One component further.
-use Rattle.std.proofs.Common.{◌∙◌, sym, subst, None, Some, refl}
+use Rattle.std.proofs.Common.{◌∙◌, sym, subst, None, Some}
 use Rattle.ob_model.specs.State.{root_id}
 use Rattle.ob_view.specs.Viewed.{IsWalked}
 use Rattle.ob_view.proofs.Walked.{in_parts, walked_empty, walked_missed, walked_none, walked_on, walked_unbegun}
