@@ -98,7 +98,7 @@ MERGED = re.compile(r"^(?:<{7}|>{7}) ", re.MULTILINE)
 
 # the documents that show code: its language, the folders of the files that it stands in, and how many pieces there are
 SHOWN = [
-    ("docs/threads.md", "rust", ("crates/callers/src", "crates/viewers/src"), 5),
+    ("docs/threads.md", "rust", ("crates/callers/src", "crates/viewers/src"), 6),
     ("docs/emulator.md", "c", ("examples/nt",), 9),
     ("README.md", "rust", ("crates/ob_standard_core/src",), 1),
 ]

@@ -1,1 +1,3 @@
 pub mod Viewed
+pub mod Answered
+pub mod Histories

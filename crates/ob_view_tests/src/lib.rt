@@ -3,6 +3,8 @@
 #![tactic(auto)]
 
 #[cfg(test)]
+mod paths;
+#[cfg(test)]
 mod rows;
 #[cfg(test)]
 mod viewers;

@@ -1,36 +1,44 @@
 //! Viewers on threads of their own, beside a writer.
 
-ghost use Rattle.std.specs.Prelude.{◌≡◌};
-ghost use Rattle.ob_device.specs.Device.{device_procedures};
-ghost use Rattle.ob_shared.specs.Publisher.{IsNamed};
-
 use crate::writer::{ROOT, Writer};
-use ob_core::SlabTable;
-use ob_device::DeviceSet;
-use ob_published::{Naming, Opened, Published};
-use ob_view::{ViewedNamespace, Viewer, open_viewed};
-use std::alloc::Global;
+use ob_published::{Naming, Published};
+use ob_view::{MOST_VIEWERS, Viewer};
 use std::sync::Wait;
 use std::sync::atomic::AtomicBool;
 use std::sync::atomic::Ordering::SeqCst;
-use std::sync::ledger::{Blank, Ledger};
-use std::thread::{Threads, join, map_vec};
+use std::sync::ledger::Ledger;
+use std::thread::{Threads, for_each_mut, join};
 
-/// Looks a name up so often, and returns the viewer; whether it always saw something, and the number of entries never fell.
-fn looks<J: Naming>(viewer: Viewer<J>, lookups: u32) -> (Viewer<J>, bool) {
-    let mut viewer = viewer;
+/// Looks a name up so often; whether it always saw something, and the number of entries never fell.
+fn looks<J: Naming>(viewer: &mut Viewer<J>, lookups: u32) -> bool {
     let mut last = 0;
-    let mut right = true;
     for _ in 0..lookups {
         match viewer.look_up(ROOT, b"A", true) {
-            Some((_, number)) => {
-                right = right && number >= last;
-                last = number;
-            }
-            None => right = false,
+            Some((_, number)) if number >= last => last = number,
+            _ => return false,
         }
     }
-    (viewer, right)
+    true
+}
+
+/// Has each viewer look a name up so often on a thread of its own; whether each was right.
+fn all_look<R: Threads + Sync, J: Naming + Send + Sync>(
+    rt: &R,
+    viewers: &mut [Viewer<J>],
+    lookups: u32,
+) -> bool {
+    let right = AtomicBool::new(true);
+    for_each_mut(
+        rt,
+        viewers,
+        MOST_VIEWERS as usize,
+        &|_, viewer| {
+            if !looks(viewer, lookups) {
+                right.store(false, SeqCst);
+            }
+        },
+    );
+    right.load(SeqCst)
 }
 
 /// Makes a directory and closes it, 50 times, and publishes.
@@ -82,14 +90,28 @@ fn sees_told<J: Naming>(viewer: &mut Viewer<J>, published: &Published<J>) -> boo
     }
 }
 
-/// Whether each viewer was right, and sees no fewer publications than these when it is told of them.
-fn all_see<J: Naming>(looked: Vec<(Viewer<J>, bool)>, published: &Published<J>) -> bool {
+/// Whether each viewer sees no fewer publications than these when it is told of them.
+fn all_see<J: Naming>(viewers: &mut [Viewer<J>], published: &Published<J>) -> bool {
     let mut right = true;
-    for (viewer, always) in looked {
-        let mut viewer = viewer;
-        right = sees_told(&mut viewer, published) && always && right;
+    for viewer in viewers.iter_mut() {
+        right = sees_told(viewer, published) && right;
     }
     right
+}
+
+/// Has each viewer look a name up so often on a thread of its own, beside a writer that publishes so often; whether each was right, and all that is published.
+fn beside<R: Threads + Wait + Sync, W: Wait + Drop, L: Ledger, J: Naming + Send + Sync>(
+    writer: &mut Writer<'_, R, W, L, J>,
+    viewers: &mut [Viewer<J>],
+    lookups: u32,
+    times: u32,
+) -> (bool, Option<Published<J>>) {
+    let rt = writer.rt;
+    join(
+        rt,
+        || all_look(rt, viewers, lookups),
+        || writes_often(writer, times),
+    )
 }
 
 /// Whether two viewers on threads of their own look names up 1,000 times each beside a writer that publishes 100 times, and
@@ -99,115 +121,48 @@ pub(crate) fn sees_beside<
     W: Wait + Drop,
     L: Ledger,
     J: Naming + Send + Sync,
->(rt: &R, wait: W, alloc: Global, blank: Blank, opened: Opened) -> Option<bool>
-    requires name { blank.name ≡ L.name }
-    requires parts { blank.parts ≡ L.parts }
-    requires whole { L.parts ≡ 1024 }
-    requires book { opened.seen.book ≡ J.book }
-    requires named { IsNamed device_procedures J.opening J.leads }
-{
-    let viewed = open_viewed::<DeviceSet, SlabTable, L, J, W>(
-        alloc, wait, blank, opened, DeviceSet, 1, 2,
-    );
-    let ViewedNamespace {
-        shared,
-        mut passes,
-        viewers,
-    } = viewed.ok()?;
-    let mut writer = Writer {
-        rt,
-        alloc,
-        space: shared,
-        pass: passes.pop(),
-    };
-    let look = |viewer: Viewer<J>| looks(viewer, 1_000);
-    let (looked, published) = join(
-        rt,
-        || map_vec(rt, viewers, &look),
-        || writes_often(&mut writer, 100),
-    );
-    Some(all_see(looked.ok()?, &published?))
+>(writer: &mut Writer<'_, R, W, L, J>, viewers: &mut [Viewer<J>]) -> Option<bool> {
+    let (right, published) = beside(writer, viewers, 1_000, 100);
+    Some(all_see(viewers, &published?) && right)
 }
 
-/// Has so many viewers look a name up so many times each, beside a writer that publishes every 100 steps.
-pub(crate) fn looked_up<
+/// Has each viewer look a name up so often on a thread of its own, beside a writer that publishes every 100 steps until all have done so; whether each step was
+/// made, and each viewer was right.
+fn looks_until<R: Threads + Wait + Sync, W: Wait + Drop, L: Ledger, J: Naming + Send + Sync>(
+    writer: &mut Writer<'_, R, W, L, J>,
+    viewers: &mut [Viewer<J>],
+    lookups: u32,
+) -> bool {
+    let (rt, done) = (writer.rt, AtomicBool::new(false));
+    let (right, written) = join(
+        rt,
+        || {
+            let right = all_look(rt, viewers, lookups);
+            done.store(true, SeqCst);
+            right
+        },
+        || writes_until(writer, &done),
+    );
+    right && written
+}
+
+/// Has viewers look a name up so many times each, beside a writer that publishes every 100 steps.
+pub(crate) fn looks_beside<
     R: Threads + Wait + Sync,
     W: Wait + Drop,
     L: Ledger,
     J: Naming + Send + Sync,
->(
-    rt: &R,
-    wait: W,
-    alloc: Global,
-    blank: Blank,
-    opened: Opened,
-    count: u32,
-    lookups: u32,
-) -> Option<bool>
-    requires name { blank.name ≡ L.name }
-    requires parts { blank.parts ≡ L.parts }
-    requires whole { L.parts ≡ 1024 }
-    requires book { opened.seen.book ≡ J.book }
-    requires named { IsNamed device_procedures J.opening J.leads }
-{
-    let viewed = open_viewed::<DeviceSet, SlabTable, L, J, W>(
-        alloc, wait, blank, opened, DeviceSet, 1, count,
-    );
-    let ViewedNamespace {
-        shared,
-        mut passes,
-        viewers,
-    } = viewed.ok()?;
-    let mut writer = Writer {
-        rt,
-        alloc,
-        space: shared,
-        pass: passes.pop(),
-    };
-    let done = AtomicBool::new(false);
-    let look = |viewer: Viewer<J>| looks(viewer, lookups);
-    let (looked, written) = join(
-        rt,
-        || {
-            let looked = map_vec(rt, viewers, &look);
-            done.store(true, SeqCst);
-            looked
-        },
-        || writes_until(&mut writer, &done),
-    );
+>(writer: &mut Writer<'_, R, W, L, J>, viewers: &mut [Viewer<J>], lookups: u32) -> Option<bool> {
+    let right = looks_until(writer, viewers, lookups);
     let published = writer.publish()?;
-    Some(written && all_see(looked.ok()?, &published))
+    Some(all_see(viewers, &published) && right)
 }
 
 /// Makes so many opens of a name that isn't there, each under the lock.
-pub(crate) fn opened_often<R: Threads + Wait + Sync, W: Wait + Drop, L: Ledger, J: Naming>(
-    rt: &R,
-    wait: W,
-    alloc: Global,
-    blank: Blank,
-    opened: Opened,
+pub(crate) fn opens_often<R: Wait, W: Wait + Drop, L: Ledger, J: Naming>(
+    writer: &mut Writer<'_, R, W, L, J>,
     lookups: u32,
-) -> Option<bool>
-    requires name { blank.name ≡ L.name }
-    requires parts { blank.parts ≡ L.parts }
-    requires whole { L.parts ≡ 1024 }
-    requires book { opened.seen.book ≡ J.book }
-    requires named { IsNamed device_procedures J.opening J.leads }
-{
-    let viewed = open_viewed::<DeviceSet, SlabTable, L, J, W>(
-        alloc, wait, blank, opened, DeviceSet, 1, 1,
-    );
-    let ViewedNamespace {
-        shared,
-        mut passes,
-        viewers: _viewers,
-    } = viewed.ok()?;
-    let mut writer = Writer {
-        rt,
-        alloc,
-        space: shared,
-        pass: passes.pop(),
-    };
+) -> Option<bool> {
     for _ in 0..lookups {
         if writer.opens(b"\\A")? {
             return Some(false);

@@ -8,18 +8,22 @@
 //!
 //! `viewers look VIEWERS LOOKUPS` has so many viewers make so many lookups each beside a writer, and `viewers open LOOKUPS` makes them
 //! by opens under the lock, to be timed.
+//!
+//! `viewers find ROWS LOOKUPS` has a viewer look so many times for names that are among so many in one directory, and `viewers resolve ROWS LOOKUPS`
+//! resolve their whole paths, which are four components long. It prints how many were found. Their instructions are to be counted.
 #![tactic(auto)]
 
 mod beside;
+mod many;
+mod participants;
 mod random;
 mod refused;
+mod scenes;
 mod turns;
 mod writer;
 
-use crate::beside::{looked_up, opened_often, sees_beside};
-use crate::random::sees_published;
-use crate::refused::catches_up;
-use crate::turns::takes_turns;
+use crate::participants::outcome_of;
+use crate::scenes::{Scene, SceneOutcome};
 use ob_published::Opened;
 use std::alloc::Global;
 use std::io::Write;
@@ -36,14 +40,12 @@ const PARTS: u64 = 1024;
 /// The task of the program.
 #[derive(Clone, Copy)]
 enum Task {
-    /// Compares what viewers see.
+    /// Compares what viewers see in three scenes.
     Compare,
     /// A publish that runs out of memory is made again.
     Refused,
-    /// So many viewers make so many lookups each.
-    Look(u32, u32),
-    /// So many opens are made under the lock.
-    Open(u32),
+    /// Plays a scene that is measured.
+    Measure(Scene),
 }
 
 /// A number that is written out.
@@ -56,20 +58,65 @@ fn task_of(arguments: &[String]) -> Option<Task> {
     let Some(what) = arguments.get(1) else {
         return Some(Task::Compare);
     };
-    let first = number_of(arguments.get(2));
-    match what.as_str() {
-        "refused" => Some(Task::Refused),
-        "look" => Some(Task::Look(first?, number_of(arguments.get(3))?)),
-        "open" => Some(Task::Open(first?)),
+    if what.as_str() == "refused" {
+        return Some(Task::Refused);
+    }
+    let first = number_of(arguments.get(2))?;
+    let second = number_of(arguments.get(3));
+    Some(Task::Measure(measured(what.as_str(), first, second)?))
+}
+
+/// The scene of a name that is measured, with its numbers.
+fn measured(name: &str, first: u32, second: Option<u32>) -> Option<Scene> {
+    match name {
+        "look" => Some(Scene::Look {
+            viewers: first,
+            lookups: second?,
+        }),
+        "open" => Some(Scene::Open { lookups: first }),
+        "find" => Some(Scene::Find {
+            rows: first,
+            lookups: second?,
+        }),
+        "resolve" => Some(Scene::Resolve {
+            rows: first,
+            lookups: second?,
+        }),
         _ => None,
     }
 }
 
-/// Writes a line that says whether something was as it should be; whether it was.
-fn is_told<W: Write>(writer: &mut W, what: &[u8], right: Option<bool>) -> bool {
-    let is_right = right == Some(true);
+/// Plays a scene in a namespace of its own; its outcome, if memory sufficed.
+fn played<R: Threads + Wait + Sync>(rt: &R, alloc: Global, scene: Scene) -> Option<SceneOutcome> {
+    let (blank, opened) = (Blank::new(PARTS), Opened::new());
+    outcome_of::<R, &R, Brand, Brand>(rt, rt, alloc, blank, opened, scene)
+}
+
+/// Plays a scene, and writes a line that says whether all was as it should be; whether it was.
+fn is_told<R: Threads + Wait + Sync, W: Write>(
+    rt: &R,
+    writer: &mut W,
+    alloc: Global,
+    scene: Scene,
+    what: &[u8],
+) -> bool {
+    let is_right = matches!(played(rt, alloc, scene), Some(SceneOutcome::Seen(true)));
     let end: &[u8] = if is_right { b": yes\n" } else { b": NO\n" };
     writer.write_all(what).is_ok() && writer.write_all(end).is_ok() && is_right
+}
+
+/// Plays a scene that is measured, and writes how many names were found, if it looks for some; whether all was as it should be.
+fn is_measured<R: Threads + Wait + Sync, W: Write>(
+    rt: &R,
+    writer: &mut W,
+    alloc: Global,
+    scene: Scene,
+) -> bool {
+    match played(rt, alloc, scene) {
+        Some(SceneOutcome::Seen(right)) => right,
+        Some(SceneOutcome::Found(found)) => writeln!(writer, "found {found}").is_ok(),
+        None => false,
+    }
 }
 
 /// Does the task; whether every outcome is as expected.
@@ -79,48 +126,39 @@ fn is_done<R: Threads + Wait + Sync, W: Write>(
     alloc: Global,
     task: Task,
 ) -> bool {
-    let (blank, opened) = (Blank::new(PARTS), Opened::new());
     match task {
         Task::Compare => {
-            let turns = takes_turns::<R, &R, Brand, Brand>(rt, rt, alloc, blank, opened);
-            let turned = is_told(writer, b"two viewers see what is published", turns);
-            let random = sees_published::<R, &R, Brand, Brand>(
+            let turned = is_told(
                 rt,
-                rt,
+                writer,
                 alloc,
-                Blank::new(PARTS),
-                Opened::new(),
+                Scene::Turns,
+                b"two viewers see what is published",
             );
             let compared = is_told(
+                rt,
                 writer,
-                b"at random publishes they see the names of then",
-                random,
-            );
-            let beside = sees_beside::<R, &R, Brand, Brand>(
-                rt,
-                rt,
                 alloc,
-                Blank::new(PARTS),
-                Opened::new(),
+                Scene::Random,
+                b"at random publishes they see the names of then",
             );
-            let seen = is_told(writer, b"beside a writer they never go back", beside);
+            let seen = is_told(
+                rt,
+                writer,
+                alloc,
+                Scene::Beside,
+                b"beside a writer they never go back",
+            );
             turned && compared && seen
         }
-        Task::Refused => {
-            let caught_up = catches_up::<R, &R, Brand, Brand>(rt, rt, alloc, blank, opened);
-            is_told(
-                writer,
-                b"after a refused publish the next shows all",
-                caught_up,
-            )
-        }
-        Task::Look(viewers, lookups) => {
-            looked_up::<R, &R, Brand, Brand>(rt, rt, alloc, blank, opened, viewers, lookups)
-                == Some(true)
-        }
-        Task::Open(lookups) => {
-            opened_often::<R, &R, Brand, Brand>(rt, rt, alloc, blank, opened, lookups) == Some(true)
-        }
+        Task::Refused => is_told(
+            rt,
+            writer,
+            alloc,
+            Scene::Refused,
+            b"after a refused publish the next shows all",
+        ),
+        Task::Measure(scene) => is_measured(rt, writer, alloc, scene),
     }
 }
 
@@ -131,7 +169,9 @@ fn main(rt: HostRuntime) -> io::Result<ExitCode> {
         return Ok(ExitCode::from(1));
     };
     let Some(task) = task_of(arguments.as_slice()) else {
-        println!(rt; "viewers [refused | look VIEWERS LOOKUPS | open LOOKUPS]")?;
+        println!(rt;
+            "viewers [refused | look VIEWERS LOOKUPS | open LOOKUPS | find ROWS LOOKUPS | resolve ROWS LOOKUPS]"
+        )?;
         return Ok(ExitCode::from(1));
     };
     match is_done(&rt, &mut rt.stdout(), alloc, task) {

@@ -1,24 +1,29 @@
 //! Random steps and publishes.
 
-ghost use Rattle.std.specs.Prelude.{◌≡◌};
-ghost use Rattle.ob_device.specs.Device.{device_procedures};
-ghost use Rattle.ob_shared.specs.Publisher.{IsNamed};
-
 use crate::writer::{Writer, component_of, sees};
 use ob_base::Handle;
-use ob_core::SlabTable;
-use ob_device::DeviceSet;
-use ob_published::{Naming, Opened};
-use ob_view::{ViewedNamespace, Viewer, open_viewed};
-use std::alloc::Global;
+use ob_published::Naming;
+use ob_view::Viewer;
 use std::sync::Wait;
-use std::sync::ledger::{Blank, Ledger};
+use std::sync::ledger::Ledger;
 
 /// The names of the root that come and go.
 const NAMES: [&[u8]; 6] = [b"\\A", b"\\B", b"\\C", b"\\D", b"\\E", b"\\F"];
 
 /// The steps.
 const STEPS: u32 = 2_000;
+
+/// Of so many steps one is a publish, on average.
+const TURNS: u32 = 16;
+
+/// The seed of the random numbers, and the shifts by which each is made of the one before. (George Marsaglia, Xorshift RNGs)
+const SEED: u32 = 2_463_534_242;
+
+const FIRST_LEFT: u32 = 13;
+
+const RIGHT: u32 = 17;
+
+const SECOND_LEFT: u32 = 5;
 
 /// The names that are there, each with its handle, and the number of entries.
 #[derive(Clone, Copy)]
@@ -27,59 +32,35 @@ struct Names {
     entries: u64,
 }
 
-/// The next of a sequence of random numbers.
+/// The next of a sequence of random numbers: Marsaglia's generator xorshift of 32 bits.
 fn next(seed: u32) -> u32 {
     let mut seed = seed;
-    seed ^= seed << 13;
-    seed ^= seed >> 17;
-    seed ^ (seed << 5)
+    seed ^= seed << FIRST_LEFT;
+    seed ^= seed >> RIGHT;
+    seed ^ (seed << SECOND_LEFT)
 }
 
 /// Whether a viewer sees the names that were there at the last publish after each of many random steps, some of which are
 /// publishes.
 pub(crate) fn sees_published<R: Wait, W: Wait + Drop, L: Ledger, J: Naming>(
-    rt: &R,
-    wait: W,
-    alloc: Global,
-    blank: Blank,
-    opened: Opened,
-) -> Option<bool>
-    requires name { blank.name ≡ L.name }
-    requires parts { blank.parts ≡ L.parts }
-    requires whole { L.parts ≡ 1024 }
-    requires book { opened.seen.book ≡ J.book }
-    requires named { IsNamed device_procedures J.opening J.leads }
-{
-    let viewed = open_viewed::<DeviceSet, SlabTable, L, J, W>(
-        alloc, wait, blank, opened, DeviceSet, 1, 1,
-    );
-    let ViewedNamespace {
-        shared,
-        mut passes,
-        mut viewers,
-    } = viewed.ok()?;
-    let mut writer = Writer {
-        rt,
-        alloc,
-        space: shared,
-        pass: passes.pop(),
-    };
-    let mut viewer = viewers.pop()?;
+    writer: &mut Writer<'_, R, W, L, J>,
+    viewer: &mut Viewer<J>,
+) -> Option<bool> {
     let mut now = Names {
         handles: [None; 6],
         entries: 0,
     };
     let mut shown = now;
-    let mut seed = 2_463_534_242;
+    let mut seed = SEED;
     for _ in 0..STEPS {
         seed = next(seed);
-        if seed % 16 == 0 {
+        if seed % TURNS == 0 {
             writer.publish()?;
             shown = now;
         } else {
-            turn(&mut writer, &mut now, seed)?;
+            turn(writer, &mut now, seed)?;
         }
-        if !sees_names(&mut viewer, &shown) {
+        if !sees_names(viewer, &shown) {
             return Some(false);
         }
     }
@@ -92,7 +73,7 @@ fn turn<R: Wait, W: Wait + Drop, L: Ledger, J: Naming>(
     names: &mut Names,
     seed: u32,
 ) -> Option<()> {
-    let place = (seed / 16 % 6) as usize;
+    let place = (seed / TURNS % 6) as usize;
     names.handles[place] = match names.handles[place] {
         Some(handle) => {
             if !writer.closes(handle) {

@@ -1,6 +1,6 @@
 //! The writer of a namespace that viewers see.
 
-use ob_base::{Handle, ObjId, Proc, Status};
+use ob_base::{Attrs, Handle, ObjId, Proc, Status};
 use ob_core::{Bytes, Command, Given, Place, Reply, SlabTable};
 use ob_device::{DeviceKind, DeviceSet};
 use ob_published::{Naming, Published, Showing};
@@ -46,8 +46,18 @@ impl<R: Wait, W: Wait + Drop, L: Ledger, J: Naming> Writer<'_, R, W, L, J> {
 
     /// Makes a directory under an absolute name, and returns its handle.
     pub(crate) fn make(&mut self, name: &[u8]) -> Option<Handle> {
-        let command = made(self.alloc, name).ok()?;
+        let command = made(self.alloc, name, 0).ok()?;
         handle_of(&self.run(&command)?)
+    }
+
+    /// Makes a permanent directory under an absolute name, without a handle.
+    pub(crate) fn keep(&mut self, name: &[u8]) -> Option<()> {
+        let command = made(self.alloc, name, Attrs::PERMANENT).ok()?;
+        let handle = handle_of(&self.run(&command)?)?;
+        if !self.closes(handle) {
+            return None;
+        }
+        Some(())
     }
 
     /// Opens the directory of an absolute name, and closes it; whether it was there.
@@ -77,12 +87,12 @@ impl<R: Wait, W: Wait + Drop, L: Ledger, J: Naming> Writer<'_, R, W, L, J> {
     }
 }
 
-/// The command that makes a directory under an absolute name.
-fn made(alloc: Global, name: &[u8]) -> Result<Command<DeviceKind>, AllocError> {
+/// The command that makes a directory under an absolute name, with these attributes.
+fn made(alloc: Global, name: &[u8], attrs: u32) -> Result<Command<DeviceKind>, AllocError> {
     let name = Bytes::from_slice(alloc, name)?;
     Ok(Command::CreateDirectory {
         place: Place::At { root: None, name },
-        attrs: 0,
+        attrs,
     })
 }
 
@@ -110,6 +120,17 @@ pub(crate) fn component_of(name: &[u8]) -> &[u8] {
         Some((_, component)) => component,
         None => name,
     }
+}
+
+/// The six last digits of a number.
+pub(crate) fn numbered(number: u32) -> [u8; 6] {
+    let mut digits = [b'0'; 6];
+    let mut left = number;
+    for digit in digits.iter_mut().rev() {
+        *digit = b'0' + (left % 10) as u8;
+        left /= 10;
+    }
+    digits
 }
 
 /// Whether a viewer sees that a name of the root is there, or isn't, after so many entries.
