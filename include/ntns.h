@@ -278,6 +278,14 @@ ntns_status ntns_close_handle(ntns *ns, uint32_t process, uint32_t handle);
 ntns_status ntns_duplicate(ntns *ns, uint32_t process, uint32_t handle, uint32_t to, bool inherit, uint32_t *copy);
 
 /*
+ * NtSetInformationObject with ObjectHandleFlagInformation: whether children of the process inherit the handle. Its value stays; if the
+ * flag changes, the handle comes last in the order of opening, and the time taken grows with all that the namespace has.
+ * INVALID_PARAMETER (closed), PROCESS_GONE, INVALID_HANDLE; and if the flag is to change, NO_MEMORY, INVALID_PARAMETER (`inherit` of
+ * an exclusive object), INSUFFICIENT_RESOURCES (the process has 65,535 handles, or no two orders of opening are left).
+ */
+ntns_status ntns_set_inherit(ntns *ns, uint32_t process, uint32_t handle, bool inherit);
+
+/*
  * NtMakeTemporaryObject: the object loses its name with its last handle. NtMakePermanentObject: it keeps it without one.
  * INVALID_PARAMETER (closed), PROCESS_GONE, INVALID_HANDLE.
  */

@@ -1,10 +1,13 @@
 //! Exports that change handles, and the permanence of what they lead to.
 
 ghost use Rattle.ob_model.specs.declared.command.Command.TheVariants.{Close, Duplicate, MakePermanent, MakeTemporary, SetDeviceMap};
+ghost use Rattle.std.specs.Prelude.{◌≡◌};
+ghost use Rattle.ob_base.specs.Status.{code_of};
 ghost use Rattle.ob_c_state.specs.Calls.{Does};
+ghost use Rattle.ob_c_state.specs.Inherit.{SetsInheritIn};
 ghost use Rattle.ob_c_state.specs.Told.{TellsHandle, TellsStatus};
 
-use ob_base::{Handle, Proc};
+use ob_base::{Handle, Proc, Status};
 use ob_c_state::{Ntns, call, status_in, tell_handle};
 use ob_core::Command;
 use std::alloc::Global;
@@ -48,6 +51,31 @@ pub extern "C" fn ntns_duplicate(
         inherit,
     };
     tell_handle(&call(ns, alloc, process, Ok(duplicate)), copy)
+}
+
+/// Sets whether the children of a process inherit one of its handles, which keeps its value and comes last in the order of
+/// opening. If the flag is as asked already, nothing is done.
+///
+/// The statuses are those of the command `Duplicate` into the process itself, in its order; `InvalidParameter` if the namespace
+/// is closed, and `NoMemory` if the flag differs and memory runs out; nothing has changed then. Source:
+/// ZwSetInformationObject with ObjectHandleFlagInformation (Windows Driver Kit).
+#[unsafe(no_mangle)]
+pub extern "C" fn ntns_set_inherit(
+    ns: &mut Ntns,
+    alloc: Global,
+    process: u32,
+    handle: u32,
+    inherit: bool,
+) -> u32
+    ensures { SetsInheritIn process handle inherit ns.old.core ns.new.core (λ status.
+        result ≡ code_of status) }
+{
+    let Some(mut core) = ns.take(alloc) else {
+        return Status::InvalidParameter.code();
+    };
+    let status = core.set_inherit(alloc, process, handle, inherit);
+    ns.put(core);
+    status.code()
 }
 
 /// Makes the object of a process's handle temporary: its name is removed when it has no handle. It takes no

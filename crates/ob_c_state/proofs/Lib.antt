@@ -7,3 +7,5 @@ pub mod Rests
 pub mod Phases
 pub mod ToldLemmas
 pub mod Rising
+pub mod HandleValues
+pub mod Inherits

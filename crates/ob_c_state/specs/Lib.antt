@@ -3,3 +3,4 @@ pub mod Caller
 pub mod Calls
 pub mod Pending
 pub mod Told
+pub mod Inherit

@@ -11,6 +11,7 @@ mod caller;
 mod calls;
 mod commands;
 mod copies;
+mod inherit;
 mod machine;
 mod parts;
 
