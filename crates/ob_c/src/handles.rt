@@ -5,10 +5,10 @@ ghost use Rattle.std.specs.Prelude.{◌≡◌};
 ghost use Rattle.ob_base.specs.Status.{code_of};
 ghost use Rattle.ob_c_state.specs.Calls.{Does};
 ghost use Rattle.ob_c_state.specs.Inherit.{SetsInheritIn};
-ghost use Rattle.ob_c_state.specs.Told.{TellsHandle, TellsStatus};
+ghost use Rattle.ob_c_state.specs.Reports.{ReportsHandle, ReportsStatus};
 
 use ob_base::{Handle, Proc, Status};
-use ob_c_state::{Ntns, call, status_in, tell_handle};
+use ob_c_state::{Ntns, call, report_handle, status_in};
 use ob_core::Command;
 use std::alloc::Global;
 
@@ -19,7 +19,7 @@ use std::alloc::Global;
 /// ZwClose (Windows Driver Kit).
 #[unsafe(no_mangle)]
 pub extern "C" fn ntns_close_handle(ns: &mut Ntns, alloc: Global, process: u32, handle: u32) -> u32
-    ensures { Does process (Close handle) ns.old.core ns.new.core (TellsStatus result) }
+    ensures { Does process (Close handle) ns.old.core ns.new.core (ReportsStatus result) }
 {
     let close = Command::Close {
         handle: Handle(handle),
@@ -43,14 +43,14 @@ pub extern "C" fn ntns_duplicate(
     copy: &mut u32,
 ) -> u32
     ensures { Does process (Duplicate handle to inherit)
-        ns.old.core ns.new.core (TellsHandle result copy.new) }
+        ns.old.core ns.new.core (ReportsHandle result copy.new) }
 {
     let duplicate = Command::Duplicate {
         handle: Handle(handle),
         to: Proc(to),
         inherit,
     };
-    tell_handle(&call(ns, alloc, process, Ok(duplicate)), copy)
+    report_handle(&call(ns, alloc, process, Ok(duplicate)), copy)
 }
 
 /// Sets whether the children of a process inherit one of its handles, which keeps its value and comes last in the order of
@@ -90,7 +90,7 @@ pub extern "C" fn ntns_make_temporary(
     process: u32,
     handle: u32,
 ) -> u32
-    ensures { Does process (MakeTemporary handle) ns.old.core ns.new.core (TellsStatus result) }
+    ensures { Does process (MakeTemporary handle) ns.old.core ns.new.core (ReportsStatus result) }
 {
     let turn = Command::MakeTemporary {
         handle: Handle(handle),
@@ -110,7 +110,7 @@ pub extern "C" fn ntns_make_permanent(
     process: u32,
     handle: u32,
 ) -> u32
-    ensures { Does process (MakePermanent handle) ns.old.core ns.new.core (TellsStatus result) }
+    ensures { Does process (MakePermanent handle) ns.old.core ns.new.core (ReportsStatus result) }
 {
     let turn = Command::MakePermanent {
         handle: Handle(handle),
@@ -129,7 +129,7 @@ pub extern "C" fn ntns_set_device_map(
     process: u32,
     handle: u32,
 ) -> u32
-    ensures { Does process (SetDeviceMap handle) ns.old.core ns.new.core (TellsStatus result) }
+    ensures { Does process (SetDeviceMap handle) ns.old.core ns.new.core (ReportsStatus result) }
 {
     let map = Command::SetDeviceMap {
         handle: Handle(handle),

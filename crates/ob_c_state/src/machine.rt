@@ -239,7 +239,7 @@ impl HostCore {
     /// Takes the first deletion that wasn't taken yet; `None` if none is left, and then nothing changes. Takes no
     /// memory. (this profile)
     pub fn take_next(&mut self) -> Option<HostDeletion>
-        ensures told { result ≡ next_deletion self.old.set }
+        ensures reported { result ≡ next_deletion self.old.set }
         ensures taken { IfSome result (λ _. self.new ≡ with_change behind_next self.old) }
         ensures none { IfNone result (self.new ≡ self.old) }
     {
