@@ -9,3 +9,5 @@ pub mod ReportsLemmas
 pub mod Rising
 pub mod HandleValues
 pub mod Inherits
+pub mod Flags
+pub mod FlagSteps

@@ -3,7 +3,8 @@
 --
 -- Source: ZwSetInformationObject (Windows Driver Kit), ObjectHandleFlagInformation; that it is made of these steps is this
 -- profile.
-use Rattle.std.specs.Prelude.{◌≡◌, ◌≢◌, ℕ, ◌==◌, Bool, ◌⊎◌, Option, None, Some, MatchBool, MatchOption}
+use Rattle.std.specs.Prelude.{◌≡◌, ◌≢◌, ℕ, Bool, ◌⊎◌, Option, None, Some, MatchBool, MatchOption}
+use Rattle.std.specs.Bool.{beq}
 use Rattle.std.specs.Option.{option_and_then}
 use Rattle.ob_base.specs.Handle.{key_of}
 use Rattle.ob_base.specs.declared.status.Status.{Status}
@@ -79,7 +80,7 @@ SetsFlag p handle inherit s status t =
 abbrev pub SetsInherit : ℕ → ℕ → Bool → Space → Status → Space → Type 0
 SetsInherit p handle inherit s status t =
     MatchOption (option_and_then (held_of s p) (key_of handle)) ((t ≡ s) × DuplicateIsRefused host s p handle inherit status)
-    (λ h. MatchBool (h.inherit == inherit) ((status ≡ Success) × (t ≡ s)) (SetsFlag p handle inherit s status t))
+    (λ h. MatchBool (beq h.inherit inherit) ((status ≡ Success) × (t ≡ s)) (SetsFlag p handle inherit s status t))
 
 -- the same in a namespace that may be closed, which refuses it and stays closed, with such a report
 abbrev pub SetsInheritIn : ℕ → ℕ → Bool → (old new : Option Space) → (Status → Type 0) → Type 0
