@@ -1,6 +1,7 @@
 -- How an inherit flag is set, from what is done at each step.
 use Rattle.std.proofs.Common.{◌≡◌, ℕ, Bool, true, false, ◌||◌, Option, None, Some, ◌⊎◌, inl, inr, refl, subst}
-use Rattle.std.specs.Prelude.{MatchOption}
+use Rattle.std.specs.Prelude.{IfErr, MatchOption, Result, Ok, Err}
+use Rattle.std.specs.Result.{IsErrAnd}
 use Rattle.ob_base.specs.Handle.{key_of}
 use Rattle.ob_base.specs.declared.status.Status.{Status}
 use Rattle.ob_base.specs.declared.status.Status.TheVariants.{NoMemory}
@@ -65,3 +66,8 @@ pub third_of : (a b c : Bool) → c ≡ true → (a || b || c) ≡ true
 third_of true b c is = refl
 third_of false true c is = refl
 third_of false false c is = is
+
+-- an error that is handed on
+pub if_err : {R : Type 0} (result : Result R Status) (P Q : Status → Type 0) → ((e : Status) → Q e → P e) → IsErrAnd result Q → IfErr result P
+if_err (Ok r) P Q so h = tt
+if_err (Err e) P Q so h = so e h
