@@ -24,7 +24,7 @@ pub extern "C" fn ntns_close_handle(ns: &mut Ntns, alloc: Global, process: u32, 
     let close = Command::Close {
         handle: Handle(handle),
     };
-    status_in(&call(ns, alloc, process, Ok(close)))
+    status_in(&call(ns, alloc, process, &Ok(close)))
 }
 
 /// Duplicates a handle of a process into another, or the same, whose children inherit the copy if `inherit` is true. `copy`
@@ -50,7 +50,7 @@ pub extern "C" fn ntns_duplicate(
         to: Proc(to),
         inherit,
     };
-    report_handle(&call(ns, alloc, process, Ok(duplicate)), copy)
+    report_handle(&call(ns, alloc, process, &Ok(duplicate)), copy)
 }
 
 /// Sets whether the children of a process inherit one of its handles, which keeps its value and comes last in the order of
@@ -95,7 +95,7 @@ pub extern "C" fn ntns_make_temporary(
     let turn = Command::MakeTemporary {
         handle: Handle(handle),
     };
-    status_in(&call(ns, alloc, process, Ok(turn)))
+    status_in(&call(ns, alloc, process, &Ok(turn)))
 }
 
 /// Makes the object of a process's handle permanent, if it has a name: the name then remains without a handle. It takes no
@@ -115,7 +115,7 @@ pub extern "C" fn ntns_make_permanent(
     let turn = Command::MakePermanent {
         handle: Handle(handle),
     };
-    status_in(&call(ns, alloc, process, Ok(turn)))
+    status_in(&call(ns, alloc, process, &Ok(turn)))
 }
 
 /// Makes the directory of a handle of a process the local directory of its device map.
@@ -134,5 +134,5 @@ pub extern "C" fn ntns_set_device_map(
     let map = Command::SetDeviceMap {
         handle: Handle(handle),
     };
-    status_in(&call(ns, alloc, process, Ok(map)))
+    status_in(&call(ns, alloc, process, &Ok(map)))
 }

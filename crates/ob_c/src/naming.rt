@@ -31,7 +31,7 @@ pub extern "C" fn ntns_create_directory_raw(
         ns.old.core ns.new.core (ReportsHandle result handle.new) }
 {
     let made = create_directory(alloc, root, named, name, attributes);
-    report_handle(&call(ns, alloc, process, made), handle)
+    report_handle(&call(ns, alloc, process, &made), handle)
 }
 
 /// Creates a directory with a shadow, at a name, or without one if `named` is false, and opens a handle to it. `root` is
@@ -57,7 +57,7 @@ pub extern "C" fn ntns_create_shadowed_raw(
         ns.old.core ns.new.core (ReportsHandle result handle.new) }
 {
     let made = create_shadowed(alloc, root, named, name, attributes, shadow);
-    report_handle(&call(ns, alloc, process, made), handle)
+    report_handle(&call(ns, alloc, process, &made), handle)
 }
 
 /// Creates a symbolic link to a target, at a name, or without one if `named` is false, and opens a handle to it. `root` is
@@ -81,7 +81,7 @@ pub extern "C" fn ntns_create_link_raw(
         ns.old.core ns.new.core (ReportsHandle result handle.new) }
 {
     let made = create_link(alloc, root, named, name, attributes, target);
-    report_handle(&call(ns, alloc, process, made), handle)
+    report_handle(&call(ns, alloc, process, &made), handle)
 }
 
 /// Creates an object of the kind of a type's number, with user data of the caller's, at a name, or without one if `named` is
@@ -113,5 +113,5 @@ pub extern "C" fn ntns_create_object_raw(
         return Status::InvalidParameter.code();
     };
     let made = create_object(alloc, root, named, name, attributes, kind, user_data);
-    report_handle(&call(ns, alloc, process, made), handle)
+    report_handle(&call(ns, alloc, process, &made), handle)
 }

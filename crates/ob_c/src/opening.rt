@@ -29,7 +29,7 @@ pub extern "C" fn ntns_open_directory_raw(
         ns.old.core ns.new.core (ReportsHandle result handle.new) }
 {
     let made = open_directory(alloc, root, name, attributes);
-    report_handle(&call(ns, alloc, process, made), handle)
+    report_handle(&call(ns, alloc, process, &made), handle)
 }
 
 /// Opens a handle to the symbolic link that a name leads to, which is not followed. `root` is the handle that the name is
@@ -51,7 +51,7 @@ pub extern "C" fn ntns_open_link_raw(
         ns.old.core ns.new.core (ReportsHandle result handle.new) }
 {
     let made = open_link(alloc, root, name, attributes);
-    report_handle(&call(ns, alloc, process, made), handle)
+    report_handle(&call(ns, alloc, process, &made), handle)
 }
 
 /// Opens a handle to the object that a name leads to, of the kind of a type's number, or of any type if that is 0. Each
@@ -110,5 +110,5 @@ fn open_wanted(
         ns.old.core ns.new.core (ReportsHandle result handle.new) }
 {
     let made = open_object(alloc, root, name, attributes, want);
-    report_handle(&call(ns, alloc, process, made), handle)
+    report_handle(&call(ns, alloc, process, &made), handle)
 }

@@ -44,7 +44,7 @@ pub extern "C" fn ntns_next_page_raw(
         restart: false,
     };
     report_page(
-        &call(ns, alloc, process, Ok(query)),
+        &call(ns, alloc, process, &Ok(query)),
         context,
         buffer,
         reported,

@@ -113,7 +113,7 @@ fn begin_wanted(
     let Some(mut core) = ns.take(alloc) else {
         return refuse(handle, pending, length);
     };
-    let begun = core.begin(process, made);
+    let begun = core.begin(process, &made);
     let status = report_begun(&mut core, begun, handle, pending, rest, length);
     ns.put(core);
     status

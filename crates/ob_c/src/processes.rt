@@ -24,7 +24,7 @@ pub extern "C" fn ntns_new_process(
     ensures { Does process (NewProcess inherit)
         ns.old.core ns.new.core (ReportsProcess result child.new) }
 {
-    let ended = call(ns, alloc, process, Ok(Command::NewProcess { inherit }));
+    let ended = call(ns, alloc, process, &Ok(Command::NewProcess { inherit }));
     *child = process_in(&ended);
     status_in(&ended)
 }
@@ -38,5 +38,5 @@ pub extern "C" fn ntns_new_process(
 pub extern "C" fn ntns_exit_process(ns: &mut Ntns, alloc: Global, process: u32) -> u32
     ensures { Does process ExitProcess ns.old.core ns.new.core (ReportsStatus result) }
 {
-    status_in(&call(ns, alloc, process, Ok(Command::ExitProcess)))
+    status_in(&call(ns, alloc, process, &Ok(Command::ExitProcess)))
 }

@@ -35,7 +35,7 @@ pub extern "C" fn ntns_query_link_raw(
     let query = Command::QueryLink {
         handle: Handle(handle),
     };
-    report_text(&call(ns, alloc, process, Ok(query)), buffer, length)
+    report_text(&call(ns, alloc, process, &Ok(query)), buffer, length)
 }
 
 /// Writes the path of the object of a handle of a process into a buffer, and reports its length; it is empty if no path
@@ -59,7 +59,7 @@ pub extern "C" fn ntns_query_name_raw(
     let query = Command::QueryName {
         handle: Handle(handle),
     };
-    report_text(&call(ns, alloc, process, Ok(query)), buffer, length)
+    report_text(&call(ns, alloc, process, &Ok(query)), buffer, length)
 }
 
 /// Writes the name of the next entry of the directory of a handle of a process into a buffer, and reports its length and the
@@ -91,6 +91,6 @@ pub extern "C" fn ntns_next_entry_raw(
         single: true,
         restart: false,
     };
-    let ended = call(ns, alloc, process, Ok(query));
+    let ended = call(ns, alloc, process, &Ok(query));
     report_entry(&ended, context, buffer, length, number)
 }

@@ -117,7 +117,7 @@ fn ask(
         single: true,
         restart: false,
     };
-    core.run(alloc, process, Ok(query))
+    core.run(alloc, process, &Ok(query))
 }
 
 // The bytes of a buffer that names are written to.

@@ -47,7 +47,7 @@ impl HostCore {
             to: Proc(process),
             inherit,
         };
-        match self.run(alloc, process, Ok(command)) {
+        match self.run(alloc, process, &Ok(command)) {
             Ok(reply) => reply.status,
             Err(_) => unreachable!(),
         }
@@ -161,7 +161,7 @@ impl HostCore {
             to: Proc(process),
             inherit,
         };
-        let reply = self.run(alloc, process, Ok(command))?;
+        let reply = self.run(alloc, process, &Ok(command))?;
         match &reply.given {
             Given::Handle(value) => Ok(*value),
             _ => Err(reply.status),
@@ -177,7 +177,7 @@ impl HostCore {
         let close = Command::Close {
             handle: Handle(handle),
         };
-        let reply = self.run(alloc, process, Ok(close))?;
+        let reply = self.run(alloc, process, &Ok(close))?;
         match reply.status {
             Status::Success => Ok(()),
             status => Err(status),

@@ -85,13 +85,13 @@ impl HostCore {
         &mut self,
         alloc: Global,
         process: u32,
-        made: Result<Command<Kind>, AllocError>,
+        made: &Result<Command<Kind>, AllocError>,
     ) -> Result<Reply, Status>
-        ensures { EndsMade process made self.old result self.new }
+        ensures { EndsMade process made.now self.old result self.new }
     {
         match made {
             Err(_) => Err(Status::NoMemory),
-            Ok(command) => self.run_lent(alloc, process, &command),
+            Ok(command) => self.run_lent(alloc, process, command),
         }
     }
 
@@ -119,15 +119,15 @@ impl HostCore {
     pub fn begin(
         &mut self,
         process: u32,
-        made: Result<Command<Kind>, AllocError>,
+        made: &Result<Command<Kind>, AllocError>,
     ) -> Result<Begun, Status>
-        ensures begun { BeginsMade process made self.old result self.new }
+        ensures begun { BeginsMade process made.now self.old result self.new }
         ensures pending { IfOk result (λ begun. IfWaits begun (λ ticket.
             IsSome (pending_of self.new ticket))) }
     {
         match made {
             Err(_) => Err(Status::NoMemory),
-            Ok(command) => self.begin_lent(process, &command),
+            Ok(command) => self.begin_lent(process, command),
         }
     }
 
