@@ -1,5 +1,5 @@
 -- The steps of an inherit flag in a caller's namespace, from how their commands end.
-use Rattle.std.proofs.Common.{◌≡◌, ℕ, Bool, true, false, not, Option, None, Some, Ok, Err, ◌⊎◌, inl, inr, refl, ap, sym, subst}
+use Rattle.std.proofs.Common.{◌≡◌, ℕ, Bool, true, false, not, List, Option, None, Some, Ok, Err, ◌⊎◌, inl, inr, refl, ap, sym, subst}
 use Rattle.std.specs.Prelude.{MatchBool}
 use Rattle.std.specs.Bool.{beq}
 use Rattle.std.specs.Option.{is_some, option_and_then}
@@ -13,7 +13,10 @@ use Rattle.ob_model.specs.declared.reply.Reply.{Reply}
 use Rattle.ob_model.specs.declared.state.Held.{Held}
 use Rattle.ob_c_state.specs.Calls.{Ends}
 use Rattle.ob_c_state.specs.Inherit.{CloseIsRefused, DuplicateIsRefused, HasFlagSet, IsClosed, IsDuplicated, SetsFlag, SetsInherit}
-use Rattle.ob_c_state.specs.Machine.{Space, host}
+use Rattle.ob_host.specs.declared.object.HostObject.{HostObject}
+use Rattle.ob_model.specs.Choice.{revalued}
+use Rattle.ob_types.specs.Parse.{ToRun}
+use Rattle.ob_c_state.specs.Machine.{KeepsParses, Space, host}
 use Rattle.ob_c_state.proofs.Flags.{Fails, of_held, of_none, third_of}
 use Rattle.ob_c_state.proofs.Inherits.{none_to_duplicate}
 
@@ -71,3 +74,7 @@ module _ (p handle : ℕ) (inherit : Bool) (s : Space) where
     sets_other t status other sets =
         of_held (option_and_then (held_of s p) (key_of handle)) _ _ h found
         (subst (λ b. MatchBool b ((status ≡ Success) × (t ≡ s)) (SetsFlag p handle inherit s status t)) (sym other) sets)
+
+-- another value of a handle leaves what is pending
+pub revalued_keeps : (s t : Space) (parses : List (ToRun HostObject)) (to : ℕ) → t ≡ revalued to s → KeepsParses s parses → KeepsParses t parses
+revalued_keeps s t parses to is keeps = subst (λ (w : Space). KeepsParses w parses) (sym is) keeps

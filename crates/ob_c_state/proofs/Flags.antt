@@ -1,7 +1,8 @@
 -- How an inherit flag is set, from what is done at each step.
-use Rattle.std.proofs.Common.{◌≡◌, ℕ, Bool, true, false, ◌||◌, Option, None, Some, ◌⊎◌, inl, inr, refl, subst}
+use Rattle.std.proofs.Common.{◌≡◌, ◌≢◌, ◌∙◌, ◌==◌, eq-eqb, sym, ℕ, Bool, true, false, ◌||◌, Option, None, Some, ◌⊎◌, inl, inr, refl, subst}
 use Rattle.std.specs.Prelude.{IfErr, MatchOption, Result, Ok, Err}
 use Rattle.std.specs.Result.{IsErrAnd}
+use Rattle.std.proofs.lemmas.Bool.{false≢true}
 use Rattle.ob_base.specs.Handle.{key_of}
 use Rattle.ob_base.specs.declared.status.Status.{Status}
 use Rattle.ob_base.specs.declared.status.Status.TheVariants.{NoMemory}
@@ -71,3 +72,7 @@ third_of false false c is = is
 pub if_err : {R : Type 0} (result : Result R Status) (P Q : Status → Type 0) → ((e : Status) → Q e → P e) → IsErrAnd result Q → IfErr result P
 if_err (Ok r) P Q so h = tt
 if_err (Err e) P Q so h = so e h
+
+-- numbers that are found to differ
+pub differ : (a b : ℕ) → (a == b) ≡ false → a ≢ b
+differ a b other same = false≢true (sym other ∙ eq-eqb a b same)
