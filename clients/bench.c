@@ -27,6 +27,7 @@ enum ask {
 	ENTRY,     /* to list the first entry of the directory of that handle */
 	PAGE,      /* to list it in a page of 4,096 bytes */
 	COPY,      /* to copy the namespace, and close the copy */
+	FLAG,      /* to set the inherit flag of the handle that was given last, as these attributes have it */
 	CHILD,     /* to begin a child, which inherits handles */
 	EXIT       /* to end the last child */
 };
@@ -89,6 +90,9 @@ static const struct operation operations[] = {
 	{ "copy a namespace of 1,000 events, and close the copy",
 	  { ONE(DIRECTORY, "\\Many", 0), THOUSAND },
 	  { { COPY, NULL, 0 } } },
+	{ "set the inherit flag of a handle in a namespace of 1,000 events, and take it back",
+	  { ONE(DIRECTORY, "\\Many", 0), THOUSAND, ONE(OPEN, "\\Many", 0) },
+	  { { FLAG, NULL, NTNS_OBJ_INHERIT }, { FLAG, NULL, 0 } } },
 	{ "begin a child that inherits ten handles, and end it",
 	  { { 10, { { OPEN, "\\", NTNS_OBJ_INHERIT } } } },
 	  { { CHILD, NULL, 0 }, { EXIT, NULL, 0 } } },
@@ -201,6 +205,8 @@ static bool is_answered(struct hand *hand, const struct asked *asked, uint32_t n
 		return first_page(hand) == NTNS_STATUS_SUCCESS;
 	case COPY:
 		return copy(hand);
+	case FLAG:
+		return ntns_set_inherit(&hand->ns, 1, hand->handle, asked->attributes & NTNS_OBJ_INHERIT) == NTNS_STATUS_SUCCESS;
 	case CHILD:
 		return ntns_new_process(&hand->ns, 1, true, &hand->child) == NTNS_STATUS_SUCCESS;
 	case EXIT:

@@ -99,7 +99,7 @@ static ntns_status tell(ntns *ns, int call, uint32_t process, uint32_t handle, c
 }
 
 /* The answer of each call that has a process and a handle and gives nothing. */
-enum { PLAIN = 5 };
+enum { PLAIN = 7 };
 
 static ntns_status do_plain(ntns *ns, int call, uint32_t process, uint32_t handle)
 {
@@ -112,6 +112,10 @@ static ntns_status do_plain(ntns *ns, int call, uint32_t process, uint32_t handl
 		return ntns_make_permanent(ns, process, handle);
 	case 3:
 		return ntns_set_device_map(ns, process, handle);
+	case 4:
+		return ntns_set_inherit(ns, process, handle, true);
+	case 5:
+		return ntns_set_inherit(ns, process, handle, false);
 	default:
 		return ntns_exit_process(ns, process);
 	}
@@ -553,6 +557,85 @@ static void handles_listed(void)
 	ntns_close(&ns);
 }
 
+/* A handle to the root directory, and whether children inherit it. */
+struct flagged {
+	uint32_t value;
+	bool inherit;
+};
+
+/* Whether process 1 has just these handles, in this order of opening, and no other process has one to the root directory. */
+static bool has_just(ntns *ns, const struct flagged *flagged, size_t count)
+{
+	struct ntns_handle handle;
+	uint64_t context = 0;
+
+	for (size_t place = 0; place < count; place++)
+		if (ntns_next_handle(ns, 1, &context, &handle) != S(SUCCESS) || handle.value != flagged[place].value || handle.inherit != flagged[place].inherit ||
+		    handle.handles != count)
+			return false;
+	return ntns_next_handle(ns, 1, &context, &handle) == S(NO_MORE_ENTRIES);
+}
+
+/* Takes a handle out of a list. */
+static void take_out(struct flagged *flagged, size_t *count, size_t place)
+{
+	*count -= 1;
+	memmove(flagged + place, flagged + place + 1, (*count - place) * sizeof *flagged);
+}
+
+/* Opens, closes and flags handles at random, beside a list of them in the order of opening: a handle whose flag changes comes last. */
+static void flags_at_random(void)
+{
+	enum { ROOM = 12, STEPS = 3000 };
+	struct flagged flagged[ROOM], one;
+	ntns ns = opened();
+	uint32_t drawn = 1;
+	size_t count = 0;
+
+	for (unsigned long step = 0; step < STEPS; step++) {
+		/* the generator that ISO C shows for rand */
+		drawn = drawn * 1103515245 + 12345;
+		uint32_t choice = drawn >> 16 & 3, low_bits = drawn >> 30;
+		size_t place = count ? (drawn >> 19 & 0x3FF) % count : 0;
+		one.inherit = drawn >> 18 & 1;
+		one.value = count ? flagged[place].value : 0;
+		if (choice == 0 && count < ROOM) {
+			hold(ntns_open_directory(&ns, 1, 0, TEXT("\\"), one.inherit ? NTNS_OBJ_INHERIT : 0, &one.value) == S(SUCCESS), "a handle is opened", step);
+			flagged[count++] = one;
+		} else if (choice == 1 && count) {
+			hold(ntns_close_handle(&ns, 1, one.value | low_bits) == S(SUCCESS), "a handle is closed", step);
+			take_out(flagged, &count, place);
+		} else {
+			hold(ntns_set_inherit(&ns, 1, one.value | low_bits, one.inherit) == (count ? S(SUCCESS) : S(INVALID_HANDLE)), "a flag is set where there is a handle", step);
+			if (count && flagged[place].inherit != one.inherit) {
+				take_out(flagged, &count, place);
+				flagged[count++] = one;
+			}
+		}
+		hold(has_just(&ns, flagged, count), "each handle has its value, its flag and its place", step);
+	}
+	ntns_close(&ns);
+}
+
+/* Where a process has as many handles as it may, no flag changes. */
+static void flags_of_a_full_table(void)
+{
+	enum { MOST = 65535 };
+	ntns ns = opened();
+	struct ntns_handle handle;
+	uint32_t first, given = 0;
+	ntns_status status = ntns_open_directory(&ns, 1, 0, TEXT("\\"), 0, &first);
+
+	for (int made = 1; made < MOST && status == S(SUCCESS); made++)
+		status = ntns_open_directory(&ns, 1, 0, TEXT("\\"), 0, &given);
+	hold(status == S(SUCCESS) && ntns_set_inherit(&ns, 1, first, true) == S(INSUFFICIENT_RESOURCES), "a full table has no room for a duplicate", 0);
+	hold(ntns_query_handle(&ns, 1, first, &handle) == S(SUCCESS) && !handle.inherit && handle.handles == MOST, "and then nothing has changed", 0);
+	hold(ntns_set_inherit(&ns, 1, first, false) == S(SUCCESS), "a flag that is as asked needs none", 0);
+	hold(ntns_close_handle(&ns, 1, given) == S(SUCCESS) && ntns_set_inherit(&ns, 1, first, true) == S(SUCCESS), "nor does one handle less", 0);
+	hold(ntns_query_handle(&ns, 1, first, &handle) == S(SUCCESS) && handle.inherit && handle.handles == MOST - 1, "the value stays", 0);
+	ntns_close(&ns);
+}
+
 static void opens_in_two_phases(void)
 {
 	static const uint64_t none[] = { 0, 1, 6, 7, 1 << 20, (uint64_t)1 << 32, (uint64_t)1 << 63, UINT64_MAX };
@@ -668,6 +751,8 @@ int main(void)
 	attributes();
 	handles_and_processes();
 	handles_listed();
+	flags_at_random();
+	flags_of_a_full_table();
 	opens_in_two_phases();
 	two_namespaces();
 	copies();

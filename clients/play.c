@@ -211,6 +211,9 @@ struct answer play_call(struct play *play, const struct step *step, char *text, 
 		memset(&answer.number, STALE, sizeof answer.number);
 		answer.status = ntns_duplicate(ns, process, handle, play->processes[(int)step->to], step->inherit, &answer.number);
 		break;
+	case SET_INHERIT:
+		answer.status = ntns_set_inherit(ns, process, handle, step->inherit);
+		break;
 	case MAKE_TEMPORARY:
 		answer.status = ntns_make_temporary(ns, process, handle);
 		break;

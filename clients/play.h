@@ -21,6 +21,7 @@ enum call {
 	CANCEL_OPEN,
 	CLOSE_HANDLE,
 	DUPLICATE_HANDLE,
+	SET_INHERIT,
 	MAKE_TEMPORARY,
 	MAKE_PERMANENT,
 	QUERY_LINK,
@@ -78,6 +79,7 @@ struct step {
 #define CANCELS(n, s) .call = CANCEL_OPEN, .ticket = n, .status = S(s)
 #define CLOSE(p, h, s) .call = CLOSE_HANDLE, .process = p, .handle = h, .status = S(s)
 #define DUPLICATE(p, h, q, i, k, s) .call = DUPLICATE_HANDLE, .process = p, .handle = h, .to = q, .inherit = i, .kept = k, .status = S(s)
+#define INHERITS(p, h, i, s) .call = SET_INHERIT, .process = p, .handle = h, .inherit = i, .status = S(s)
 #define TEMPORARY(p, h, s) .call = MAKE_TEMPORARY, .process = p, .handle = h, .status = S(s)
 #define PERMANENT(p, h, s) .call = MAKE_PERMANENT, .process = p, .handle = h, .status = S(s)
 #define TARGET(p, h, t, s) .call = QUERY_LINK, .process = p, .handle = h, .text = t, .status = S(s)

@@ -102,7 +102,16 @@ static const struct step steps[] = {
 	{ DUPLICATE('p', 'e', 'q', false, 'e', SUCCESS) },
 	{ DUPLICATE('p', 'e', 'q', true, 'f', SUCCESS) },
 	{ DUPLICATE('p', 'x', 'q', false, 'x', ACCESS_DENIED) },
+	{ INHERITS('p', 'm', true, SUCCESS) },
+	{ INHERITS('p', 'm', true, SUCCESS) },
+	{ INHERITS('p', 'K', true, SUCCESS) },
+	{ INHERITS('q', 'f', false, SUCCESS) },
+	{ INHERITS('q', 'f', true, SUCCESS) },
+	{ INHERITS('p', 'x', true, INVALID_PARAMETER) },
 	{ NEW('p', true, 'r', SUCCESS) },
+	{ NAME('r', 'm', "\\A\\a name of more than a few bytes {200:x}", SUCCESS) },
+	{ REST('r', 'K', "\\{300:y}", SUCCESS) },
+	{ INHERITS('p', 'K', false, SUCCESS) },
 	{ NEW('q', true, 's', SUCCESS) },
 	{ NAME('r', 'g', "\\A\\B\\E", SUCCESS) },
 	{ EXIT('r', SUCCESS) },
@@ -230,10 +239,13 @@ static bool add_handle(struct state *state, ntns *ns, uint32_t process, uint32_t
 	uint32_t type;
 	uint64_t user_data, id, context = 0;
 	size_t length;
+	struct ntns_handle opened;
 	ntns_status status = ntns_query_object(ns, process, handle, &type, &user_data, &id);
 
 	if (status == S(INVALID_HANDLE))
 		return false;
+	ntns_query_handle(ns, process, handle, &opened);
+	add(state, "%d %d %d %" PRIu32 "; ", opened.inherit, opened.permanent, opened.exclusive, opened.handles);
 	add(state, "%" PRIu32 " %" PRIu32 ": %s %" PRIu32 " %" PRIu64 " %" PRIu64, process, handle, name_of(status), type, user_data, id);
 	status = ntns_query_name(ns, process, handle, text, sizeof text, &length);
 	add(state, "; %s %.*s", name_of(status), (int)length, text);
@@ -249,6 +261,8 @@ static bool add_handle(struct state *state, ntns *ns, uint32_t process, uint32_t
 
 static void take_state(struct state *state, ntns *ns)
 {
+	struct ntns_handle opened;
+	uint64_t context;
 	size_t length;
 
 	state->length = 0;
@@ -258,6 +272,8 @@ static void take_state(struct state *state, ntns *ns)
 		add(state, "process %" PRIu32 "\n", process);
 		for (uint32_t handle = 4, unused = 0; unused < UNUSED; handle += 4)
 			unused = add_handle(state, ns, process, handle) ? 0 : unused + 1;
+		for (context = 0; ntns_next_handle(ns, process, &context, &opened) == S(SUCCESS);)
+			add(state, "%" PRIu32 " at %" PRIu64 "\n", opened.value, context);
 	}
 }
 

@@ -367,6 +367,56 @@ INSTEAD(ntns_status, ntns_end_open, ntns *ns, uint64_t ticket, uint32_t *handle)
 	return status == S(INVALID_PARAMETER) && ticket == refused ? S(OBJECT_TYPE_MISMATCH) : status;
 }
 
+#elif defined FLAGGED_VALUE_IS_ANOTHER
+/* Leaves the duplicate in place of the handle. */
+INSTEAD(ntns_status, ntns_set_inherit, ntns *ns, uint32_t process, uint32_t handle, bool inherit)
+{
+	uint32_t copy;
+	struct ntns_handle held;
+	if (ntns_query_handle(ns, process, handle, &held) == S(SUCCESS) && held.inherit == inherit)
+		return S(SUCCESS);
+	ntns_status status = ntns_duplicate(ns, process, handle, process, inherit, &copy);
+	return status == S(SUCCESS) ? ntns_close_handle(ns, process, handle) : status;
+}
+
+#elif defined FLAG_STAYS
+INSTEAD(ntns_status, ntns_set_inherit, ntns *ns, uint32_t process, uint32_t handle, bool inherit)
+{
+	struct ntns_handle held;
+	if (ntns_query_handle(ns, process, handle, &held) == S(SUCCESS) && !held.exclusive)
+		return S(SUCCESS);
+	return __real_ntns_set_inherit(ns, process, handle, inherit);
+}
+
+#elif defined FLAG_IS_GIVEN_UP
+INSTEAD(ntns_status, ntns_set_inherit, ntns *ns, uint32_t process, uint32_t handle, bool inherit)
+{
+	struct ntns_handle held;
+	if (ntns_query_handle(ns, process, handle, &held) == S(SUCCESS) && held.inherit != inherit && !held.exclusive)
+		return S(NO_MEMORY);
+	return __real_ntns_set_inherit(ns, process, handle, inherit);
+}
+
+#elif defined FLAG_LEAVES_A_HANDLE
+INSTEAD(ntns_status, ntns_set_inherit, ntns *ns, uint32_t process, uint32_t handle, bool inherit)
+{
+	uint32_t copy;
+	ntns_status status = __real_ntns_set_inherit(ns, process, handle, inherit);
+	if (status == S(SUCCESS))
+		ntns_duplicate(ns, process, handle, process, inherit, &copy);
+	return status;
+}
+
+#elif defined FLAG_IS_SET_WITHOUT_MEMORY
+/* Refuses for want of memory, and sets the flag all the same. */
+INSTEAD(ntns_status, ntns_set_inherit, ntns *ns, uint32_t process, uint32_t handle, bool inherit)
+{
+	ntns_status status = __real_ntns_set_inherit(ns, process, handle, inherit);
+	if (status == S(NO_MEMORY))
+		__real_ntns_set_inherit(ns, process, handle, inherit);
+	return status;
+}
+
 #elif defined OTHER_USER_DATA
 INSTEAD(ntns_status, ntns_create_object, ntns *ns, uint32_t process, uint32_t root, const char *name, size_t length, uint32_t attributes, uint32_t type, uint64_t user_data, uint32_t *handle)
 {

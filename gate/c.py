@@ -65,6 +65,7 @@ FAILS = {
     "COPY_TAKES_DELETIONS": "refusals",
     "COPY_LOSES_PENDING_OPENS": "refusals",
     "REFUSED_MEMORY_AND_DONE": "refusals",
+    "FLAG_IS_SET_WITHOUT_MEMORY": "refusals",
     "LOSES_MEMORY": "refusals",
 }
 

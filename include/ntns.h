@@ -13,7 +13,7 @@
  *         status = ntns_create_object(&ns, 1, 0, "\\E", 2, 0, NTNS_TYPE_EVENT, 7, &event);
  *     ntns_close(&ns);
  *
- * What a caller owes: `ns` is all zeros before its first open, and no one else writes into it; every pointer is valid for what is
+ * A caller keeps to these rules: `ns` is all zeros before its first open, and no one else writes into it; every pointer is valid for what is
  * read or written through it, and no two that are written through overlap; a name, a target or a buffer may be NULL where its
  * length is 0. There is one call at a time on one namespace; calls on different namespaces are free of one another. A caller with
  * threads puts a lock round each namespace:
@@ -191,7 +191,7 @@ ntns_status ntns_create_directory(ntns *ns, uint32_t process, uint32_t root, con
 ntns_status ntns_create_shadowed(ntns *ns, uint32_t process, uint32_t root, const char *name, size_t name_len, uint32_t attributes,
 				 uint32_t shadow, uint32_t *handle);
 
-/* NtCreateSymbolicLinkObject. What `target` says is looked up when the link is followed. */
+/* NtCreateSymbolicLinkObject. The name in `target` is looked up when the link is followed. */
 ntns_status ntns_create_link(ntns *ns, uint32_t process, uint32_t root, const char *name, size_t name_len, uint32_t attributes,
 			     const char *target, size_t target_len, uint32_t *handle);
 
@@ -265,7 +265,7 @@ ntns_status ntns_end_open(ntns *ns, uint64_t ticket, uint32_t *handle);
 ntns_status ntns_cancel_open(ntns *ns, uint64_t ticket);
 
 /*
- * NtClose. What nothing refers to any more is deleted, and what of it is the caller's is reported by ntns_next_deletion.
+ * NtClose. An object to which nothing refers any more is deleted, and ntns_next_deletion reports it if it is the caller's.
  * INVALID_PARAMETER (closed), PROCESS_GONE, INVALID_HANDLE.
  */
 ntns_status ntns_close_handle(ntns *ns, uint32_t process, uint32_t handle);
@@ -278,6 +278,14 @@ ntns_status ntns_close_handle(ntns *ns, uint32_t process, uint32_t handle);
 ntns_status ntns_duplicate(ntns *ns, uint32_t process, uint32_t handle, uint32_t to, bool inherit, uint32_t *copy);
 
 /*
+ * NtSetInformationObject with ObjectHandleFlagInformation: whether children of the process inherit the handle. Its value stays; if the
+ * flag changes, the handle comes last in the order of opening, and the time taken grows with all that the namespace has.
+ * INVALID_PARAMETER (closed), PROCESS_GONE, INVALID_HANDLE; and if the flag is to change, NO_MEMORY, INVALID_PARAMETER (`inherit` of
+ * an exclusive object), INSUFFICIENT_RESOURCES (the process has 65,535 handles, or no two orders of opening are left).
+ */
+ntns_status ntns_set_inherit(ntns *ns, uint32_t process, uint32_t handle, bool inherit);
+
+/*
  * NtMakeTemporaryObject: the object loses its name with its last handle. NtMakePermanentObject: it keeps it without one.
  * INVALID_PARAMETER (closed), PROCESS_GONE, INVALID_HANDLE.
  */
@@ -286,7 +294,7 @@ ntns_status ntns_make_permanent(ntns *ns, uint32_t process, uint32_t handle);
 
 /*
  * Texts. On success `length` is that of the text, whose bytes are in `buffer`; if that is too small nothing is written into it,
- * and `length` is what is needed; on any other status it is 0. What of the buffer isn't needed stays as it was.
+ * and `length` is what is needed; on any other status it is 0. The rest of the buffer stays as it was.
  *
  * NtQuerySymbolicLinkObject: the target of a link, as it was given.
  * ObQueryNameString: the path of an object; empty if it or a directory above it has no name.
@@ -412,7 +420,7 @@ struct ntns_deletion {
 
 /*
  * The delete procedure, run after the step: takes the first deletion that wasn't taken yet. They wait until they are taken, in the
- * order of the steps, and take no further memory. What a parse made and no handle was given to is reported too. docs/c.md says how
+ * order of the steps, and take no further memory. An object that a parse made is reported too if it got no handle. docs/c.md says how
  * a host counts. It takes no memory.
  * INVALID_PARAMETER (closed), NO_MORE_ENTRIES (none is left); then each field is 0.
  */

@@ -117,7 +117,7 @@ static inline size_t ntns_get_unit(const char *text, size_t bytes, char escape, 
  * The bytes of `units` units of UTF-16, as of a UNICODE_STRING with twice that Length. `escape` is 0 for none.
  *
  * On success `length` is how many bytes are in `buffer`; if it is too small nothing is written into it, and `length` is what is
- * needed; on any other refusal it is 0. What of the buffer isn't needed stays as it was.
+ * needed; on any other refusal it is 0. The rest of the buffer stays as it was.
  *
  * INVALID_PARAMETER (an escape that ntns_is_escape refuses), OBJECT_NAME_INVALID (without an escape: a unit outside 0x20 to 0x7E),
  * BUFFER_TOO_SMALL.

@@ -155,6 +155,7 @@ _CALLS = {
     "ntns_cancel_open": (c_uint32, [POINTER(_Ntns), c_uint64]),
     "ntns_close_handle": (c_uint32, [POINTER(_Ntns), c_uint32, c_uint32]),
     "ntns_duplicate": (c_uint32, [POINTER(_Ntns), c_uint32, c_uint32, c_uint32, c_bool, POINTER(c_uint32)]),
+    "ntns_set_inherit": (c_uint32, [POINTER(_Ntns), c_uint32, c_uint32, c_bool]),
     "ntns_make_temporary": (c_uint32, [POINTER(_Ntns), c_uint32, c_uint32]),
     "ntns_make_permanent": (c_uint32, [POINTER(_Ntns), c_uint32, c_uint32]),
     "ntns_query_link": (c_uint32, [POINTER(_Ntns), c_uint32, c_uint32, c_char_p, c_size_t, POINTER(c_size_t)]),
@@ -464,6 +465,10 @@ class Handle:
         if to.namespace is not self.process.namespace:
             raise ValueError("the process is one of another namespace")
         return Handle(to, self._ask("duplicate", to.number, inherit))
+
+    def set_inherit(self, inherit: bool):
+        """NtSetInformationObject with ObjectHandleFlagInformation: whether children inherit it. It keeps its value; if the flag changes, it comes last in the order of opening."""
+        self._do("set_inherit", inherit)
 
     def make_temporary(self):
         """NtMakeTemporaryObject: the object loses its name with its last handle."""

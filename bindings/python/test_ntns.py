@@ -132,6 +132,19 @@ class Processes(Bound):
         copy = self.system.create_object(Type.EVENT, user_data=5).duplicate(to=child)
         self.assertEqual((copy.process.number, copy.query().user_data), (child.number, 5))
 
+    def test_an_inherit_flag_is_set(self):
+        handle = self.system.create_object(Type.EVENT, user_data=3)
+        other = self.system.create_object(Type.MUTANT, attributes=Attribute.EXCLUSIVE)
+        handle.set_inherit(True)
+        self.assertTrue(handle.attributes().inherit)
+        self.assertEqual([it.value for it in self.system.handles()], [other.value, handle.value])
+        child = self.system.new_process(inherit=True)
+        self.assertEqual(child.handle(handle.value).query().user_data, 3)
+        child.handle(handle.value).set_inherit(False)
+        self.assertEqual(list(child.new_process(inherit=True).handles()), [])
+        self.refused(Status.INVALID_PARAMETER, other.set_inherit, True)
+        self.refused(Status.INVALID_HANDLE, child.handle(other.value).set_inherit, True)
+
     def test_handles_are_listed_in_order_of_opening(self):
         directory = self.system.create_directory(r"\D", Attribute.PERMANENT | Attribute.INHERIT)
         event = self.system.create_object(Type.EVENT, user_data=5, attributes=Attribute.EXCLUSIVE)

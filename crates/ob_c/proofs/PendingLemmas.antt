@@ -21,17 +21,17 @@ use Rattle.ob_model.proofs.SoundPaths.{find_of, of_some}
 use Rattle.ob_runner.specs.declared.begun.Begun.{Begun}
 use Rattle.ob_c_state.specs.Machine.{Space, host}
 use Rattle.ob_c_state.specs.Pending.{BeginsOpen, Cancels}
-use Rattle.ob_c.specs.Pending.{CopiesRest, TellsBegin, TellsBegun, TellsPending, no_pending, pending_code, pending_told}
+use Rattle.ob_c.specs.Pending.{CopiesRest, ReportsBegin, ReportsBegun, ReportsPending, no_pending, pending_code, pending_reported}
 use Rattle.ob_c.specs.declared.pending.BegunOpen.{BegunOpen}
 use Rattle.ob_c.proofs.Held.{has_body}
 
 -- what was taken out of a caller's struct is begun, and put back
-pub begins_open : (p : ℕ) (command : Command Kind) (old new : Option Space) (s t u lent left : Space) (begun : Result Begun Status) (status handle : ℕ) (told : BegunOpen) (was is : List ℕ) (needed : ℕ)
-    → Some s ≡ old → new ≡ Some u → lent ≡ s → BeginsOpen p command lent begun t → left ≡ t → TellsBegun begun left u status handle told was is needed
-    → TellsBegin p command old new status handle told was is needed
-begins_open p command old new s t u lent left begun status handle told was is needed taken put same begins next tells =
-    subst (λ (o : Option Space). TellsBegin p command o new status handle told was is needed) taken
-    (begun, t, u, subst (λ (v : Space). BeginsOpen p command v begun t) same begins, put, subst (λ (v : Space). TellsBegun begun v u status handle told was is needed) next tells)
+pub begins_open : (p : ℕ) (command : Command Kind) (old new : Option Space) (s t u lent left : Space) (begun : Result Begun Status) (status handle : ℕ) (reported : BegunOpen) (was is : List ℕ) (needed : ℕ)
+    → Some s ≡ old → new ≡ Some u → lent ≡ s → BeginsOpen p command lent begun t → left ≡ t → ReportsBegun begun left u status handle reported was is needed
+    → ReportsBegin p command old new status handle reported was is needed
+begins_open p command old new s t u lent left begun status handle reported was is needed taken put same begins next report =
+    subst (λ (o : Option Space). ReportsBegin p command o new status handle reported was is needed) taken
+    (begun, t, u, subst (λ (v : Space). BeginsOpen p command v begun t) same begins, put, subst (λ (v : Space). ReportsBegun begun v u status handle reported was is needed) next report)
 
 -- an open that is pending has an object, and a rest
 module _ (found : Option (PendingOpen Kind)) where
@@ -91,36 +91,36 @@ no_body s sound n o is none = go (body_of s o) (pending_has_body s sound n o is)
 module _ (t : Space) (ticket o : ℕ) (body : Body HostObject Kept) (at : option_map (λ x. x.object) (pending_of t ticket) ≡ Some o) (is : body_of t o ≡ Some body) (old new : List ℕ) (needed : ℕ) where
   -- what is reported of a rest that fits, and of one that doesn't
   abbrev Reported : PendingOpen Kind → Space → ℕ → BegunOpen → Type 0
-  Reported x u status told = (u ≡ t) × (status ≡ pending_code) × (told ≡ pending_told ticket x.object body) × (new ≡ x.rest ++ drop (length x.rest) old)
+  Reported x u status reported = (u ≡ t) × (status ≡ pending_code) × (reported ≡ pending_reported ticket x.object body) × (new ≡ x.rest ++ drop (length x.rest) old)
 
   abbrev Abandoned : Space → ℕ → BegunOpen → Type 0
-  Abandoned u status told = Step host t (Abandon ticket Unrun) (answers Success) u × (status ≡ code_of BufferTooSmall) × (told ≡ no_pending) × (new ≡ old)
+  Abandoned u status reported = Step host t (Abandon ticket Unrun) (answers Success) u × (status ≡ code_of BufferTooSmall) × (reported ≡ no_pending) × (new ≡ old)
 
   -- a pending open is reported
-  pub tells_pending : CopiesRest (pending_of t ticket) true old new needed → TellsPending t ticket t pending_code (pending_told ticket o body) old new needed
-  tells_pending copies = go (pending_of t ticket) refl at copies
+  pub reports_pending : CopiesRest (pending_of t ticket) true old new needed → ReportsPending t ticket t pending_code (pending_reported ticket o body) old new needed
+  reports_pending copies = go (pending_of t ticket) refl at copies
     where
       go : (found : Option (PendingOpen Kind)) → pending_of t ticket ≡ found → option_map (λ x. x.object) found ≡ Some o → CopiesRest found true old new needed
-          → TellsPending t ticket t pending_code (pending_told ticket o body) old new needed
+          → ReportsPending t ticket t pending_code (pending_reported ticket o body) old new needed
       go None e at copies = absurd copies
       go (Some x) e at copies =
           let same : o ≡ x.object = cc in
-          let reported : Reported x t pending_code (pending_told ticket o body) = (refl, refl, ap (λ k. pending_told ticket k body) same, copies.2) in (
+          let reported : Reported x t pending_code (pending_reported ticket o body) = (refl, refl, ap (λ k. pending_reported ticket k body) same, copies.2) in (
             x,
             body,
             e,
             subst (λ k. body_of t k ≡ Some body) same is,
             copies.0,
-            subst (λ b. MatchBool b (Reported x t pending_code (pending_told ticket o body)) (Abandoned t pending_code (pending_told ticket o body))) copies.1 reported,
+            subst (λ b. MatchBool b (Reported x t pending_code (pending_reported ticket o body)) (Abandoned t pending_code (pending_reported ticket o body))) copies.1 reported,
           )
 
   -- or abandoned, where its rest doesn't fit
-  pub tells_small : (u : Space) (status : Status) → CopiesRest (pending_of t ticket) false old new needed → Cancels ticket t status u → TellsPending t ticket u (code_of BufferTooSmall) no_pending old new needed
-  tells_small u status copies cancels = go (pending_of t ticket) refl at copies cancels
+  pub reports_small : (u : Space) (status : Status) → CopiesRest (pending_of t ticket) false old new needed → Cancels ticket t status u → ReportsPending t ticket u (code_of BufferTooSmall) no_pending old new needed
+  reports_small u status copies cancels = go (pending_of t ticket) refl at copies cancels
     where
       go : (found : Option (PendingOpen Kind)) → pending_of t ticket ≡ found → option_map (λ x. x.object) found ≡ Some o → CopiesRest found false old new needed
           → MatchOption found ((status ≡ InvalidParameter) × (u ≡ t)) (λ _. (status ≡ Success) × Step host t (Abandon ticket Unrun) (answers Success) u)
-          → TellsPending t ticket u (code_of BufferTooSmall) no_pending old new needed
+          → ReportsPending t ticket u (code_of BufferTooSmall) no_pending old new needed
       go None e at copies cancelled = absurd copies
       go (Some x) e at copies cancelled =
           let same : o ≡ x.object = cc in

@@ -9,7 +9,7 @@ use Rattle.ob_model.specs.declared.reply.Reply.{Reply}
 use Rattle.ob_c_state.specs.Machine.{Space}
 use Rattle.ob_c.specs.Rows.{Asks, IsRead, Read, Reads, Takes, entry_in, names_of, names_room}
 use Rattle.ob_numbers.specs.Types.{IsTypeNumber}
-use Rattle.ob_c.specs.declared.rows.Row.{Row}
+use Rattle.ob_c.specs.declared.rows.PageRow.{PageRow}
 use Rattle.ob_c.specs.declared.rows.Progress.{Progress}
 
 -- something more is written after the front of a list
@@ -50,7 +50,7 @@ module _ (process handle : ℕ) where
       (so_far.0, so_far.1, so_far.2, so_far.3, reads_more (after from first) to so_far.1 u v reads read ended so_far.4 asked is)
 
   -- What was read so far of a listing, and the query after it: the rows and the names stand in front.
-  pub record IsAt (s : Space) (context : ℕ) (rows : List Row) (buffer : List ℕ) (progress : Progress) (ended : Result Reply Status) (t : Space) (rows' : List Row) (buffer' : List ℕ) : Type 0 where
+  pub record IsAt (s : Space) (context : ℕ) (rows : List PageRow) (buffer : List ℕ) (progress : Progress) (ended : Result Reply Status) (t : Space) (rows' : List PageRow) (buffer' : List ℕ) : Type 0 where
     pub reads : List Read
     pub before : Space
     pub so_far : Reads process handle (record { filled = 0; place = 0; context = context }) s reads progress before
@@ -62,7 +62,7 @@ module _ (process handle : ℕ) where
     pub rows_fit : progress.filled ≤ length rows
     pub bytes_fit : progress.place ≤ names_room (length buffer)
 
-  module _ {s t : Space} {context : ℕ} {rows rows' : List Row} {buffer buffer' : List ℕ} {progress : Progress} {ended : Result Reply Status}
+  module _ {s t : Space} {context : ℕ} {rows rows' : List PageRow} {buffer buffer' : List ℕ} {progress : Progress} {ended : Result Reply Status}
       (at : IsAt s context rows buffer progress ended t rows' buffer') where
     -- the rows keep their length
     pub same_rows : length rows' ≡ length rows
@@ -78,7 +78,7 @@ module _ (process handle : ℕ) where
         )
 
     -- an entry is taken, and the next one is asked for
-    pub one_more : (room : ℕ) (progress' : Progress) (rows'' : List Row) (buffer'' : List ℕ) (ended' : Result Reply Status) (t' : Space) (B : Type 0) (took : Bool) → took ≡ true
+    pub one_more : (room : ℕ) (progress' : Progress) (rows'' : List PageRow) (buffer'' : List ℕ) (ended' : Result Reply Status) (t' : Space) (B : Type 0) (took : Bool) → took ≡ true
         → room ≡ names_room (length buffer) → MatchBool took (Takes (entry_in ended) room progress progress' rows' rows'' buffer' buffer'') B → Asks process handle progress'.context t ended' t'
         → IsAt s context rows buffer progress' ended' t' rows'' buffer''
     one_more room progress' rows'' buffer'' ended' t' B false is_true is_room takes asked = cc
@@ -101,7 +101,7 @@ module _ (process handle : ℕ) where
         } in
         subst (λ (x : Progress). IsAt s context rows buffer x ended' t' rows'' buffer'') (sym is) next
       where
-        one_apart : (front : List Row) (row : Row) (rest : List Row) → front ++ row ∷ rest ≡ front ++ (row ∷ []) ++ rest
+        one_apart : (front : List PageRow) (row : PageRow) (rest : List PageRow) → front ++ row ∷ rest ≡ front ++ (row ∷ []) ++ rest
         one_apart front row rest = sym (append_assoc front (row ∷ []) rest)
 
         append_nothing : (xs : List ℕ) → xs ++ [] ≡ xs
@@ -115,7 +115,7 @@ module _ (process handle : ℕ) where
         names_more reads read = sym (names_append reads (read ∷ []) ∙ ap (λ z. names_of reads ++ z) (append_nothing read.name))
 
   -- nothing was read yet
-  pub at_first : (s t : Space) (context : ℕ) (rows : List Row) (buffer : List ℕ) (ended : Result Reply Status) → Asks process handle context s ended t
+  pub at_first : (s t : Space) (context : ℕ) (rows : List PageRow) (buffer : List ℕ) (ended : Result Reply Status) → Asks process handle context s ended t
       → IsAt s context rows buffer (record { filled = 0; place = 0; context = context }) ended t rows buffer
   at_first s t context rows buffer ended asked = record {
     reads = [];
@@ -131,19 +131,19 @@ module _ (process handle : ℕ) where
   }
 
 -- an entry that a query gave is taken
-pub takes_entry : (given : Option (Listed × ℕ)) (entry : Listed) (room context number : ℕ) (old : Progress) (rows rows' : List Row) (name buffer buffer' : List ℕ)
+pub takes_entry : (given : Option (Listed × ℕ)) (entry : Listed) (room context number : ℕ) (old : Progress) (rows rows' : List PageRow) (name buffer buffer' : List ℕ)
     → Some (entry, context) ≡ given → name ≡ entry.name → IsTypeNumber entry.type_name number → old.filled < length rows → old.place + length name ≤ room
     → rows' ≡ take old.filled rows ++ record { context = context; number = number; name = old.place; length = length name } ∷ drop (old.filled + 1) rows
     → buffer' ≡ take old.place buffer ++ name ++ drop (old.place + length name) buffer
     → Takes given room old (record { filled = old.filled + 1; place = old.place + length name; context = context }) rows rows' buffer buffer'
-takes_entry given entry room context number old rows rows' name buffer buffer' is name_is tells less fits rows_are bytes_are =
+takes_entry given entry room context number old rows rows' name buffer buffer' is name_is report less fits rows_are bytes_are =
     let read : Read = record { name = name; row = record { context = context; number = number; name = old.place; length = length name } } in
     let new : Progress = record { filled = old.filled + 1; place = old.place + length name; context = context } in
     subst (λ (g : Option (Listed × ℕ)). Takes g room old new rows rows' buffer buffer') is
-    (read, (name_is, refl, tells, refl, ap length name_is), less, fits, refl, rows_are, bytes_are)
+    (read, (name_is, refl, report, refl, ap length name_is), less, fits, refl, rows_are, bytes_are)
 
 -- a row that was set at a place
-pub row_put : (rows : List Row) (place : ℕ) (row : Row) → place < length rows → slice_set rows place row ≡ take place rows ++ row ∷ drop (place + 1) rows
+pub row_put : (rows : List PageRow) (place : ℕ) (row : PageRow) → place < length rows → slice_set rows place row ≡ take place rows ++ row ∷ drop (place + 1) rows
 row_put rows place row less = set_split rows place row less ∙ ap (λ n. take place rows ++ row ∷ drop n rows) (next place)
   where
     next : (n : ℕ) → suc n ≡ n + 1

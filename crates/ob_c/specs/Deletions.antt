@@ -12,8 +12,8 @@ use Rattle.ob_numbers.specs.Types.{type_of_kind}
 use Rattle.ob_c.specs.declared.deletions.Deletion.{Deletion}
 
 -- a deletion as a caller in C reads it: the id is the serial that the object's first open drew, 0 if it was never opened
-abbrev pub deletion_told : HostDeletion → Deletion
-deletion_told deletion =
+abbrev pub deletion_reported : HostDeletion → Deletion
+deletion_reported deletion =
     record { number = type_of_kind deletion.kind; user_data = deletion.user_data; id = deletion.serial; parsed = if deletion.parsed then 1 else 0 }
 
 -- the fields where there is none
@@ -21,11 +21,11 @@ abbrev pub no_deletion : Deletion
 no_deletion = record { number = 0; user_data = 0; id = 0; parsed = 0 }
 
 -- A deletion is reported, and no more; or none is left, and nothing changes.
-abbrev pub TellsNext : Option HostDeletion → Space → (new : Option Space) → (status : ℕ) → Deletion → Type 0
-TellsNext None s new status told = (new ≡ Some s) × (status ≡ code_of NoMoreEntries) × (told ≡ no_deletion)
-TellsNext (Some deletion) s new status told = (new ≡ Some (with_change behind_next s)) × (status ≡ code_of Success) × (told ≡ deletion_told deletion)
+abbrev pub ReportsNext : Option HostDeletion → Space → (new : Option Space) → (status : ℕ) → Deletion → Type 0
+ReportsNext None s new status reported = (new ≡ Some s) × (status ≡ code_of NoMoreEntries) × (reported ≡ no_deletion)
+ReportsNext (Some deletion) s new status reported = (new ≡ Some (with_change behind_next s)) × (status ≡ code_of Success) × (reported ≡ deletion_reported deletion)
 
 -- the first deletion that wasn't reported yet, in a namespace that may be closed
-abbrev pub TellsDeletion : (old new : Option Space) → (status : ℕ) → Deletion → Type 0
-TellsDeletion None new status told = (new ≡ None) × (status ≡ code_of InvalidParameter) × (told ≡ no_deletion)
-TellsDeletion (Some s) new status told = TellsNext (next_deletion s.set) s new status told
+abbrev pub ReportsDeletion : (old new : Option Space) → (status : ℕ) → Deletion → Type 0
+ReportsDeletion None new status reported = (new ≡ None) × (status ≡ code_of InvalidParameter) × (reported ≡ no_deletion)
+ReportsDeletion (Some s) new status reported = ReportsNext (next_deletion s.set) s new status reported

@@ -10,7 +10,7 @@ use Rattle.ob_model.specs.declared.entries.Listed.{Listed}
 use Rattle.ob_model.specs.declared.reply.Given.{Given}
 use Rattle.ob_model.specs.declared.reply.Given.TheVariants.{Nothing, Handle, Text, Process, Page}
 use Rattle.ob_model.specs.declared.reply.Reply.{Reply}
-use Rattle.ob_c_state.specs.Told.{FillsNothing}
+use Rattle.ob_c_state.specs.Reports.{FillsNothing}
 use Rattle.ob_numbers.specs.Texts.{zero_ended}
 
 -- the room of a page for a buffer of so many bytes
@@ -35,25 +35,25 @@ abbrev pub room_left : (room needed : ℕ) → Option ℕ
 room_left room needed = if nat_le needed room then Some (room - needed) else None
 
 -- no page is reported, and the context stays
-abbrev pub TellsNoPage : (status : ℕ) → ℕ → (context context' : ℕ) → (old new : List ℕ) → (told : ℕ) → Type 0
-TellsNoPage status code context context' old new told = FillsNothing status code old new told × (context' ≡ context)
+abbrev pub ReportsNoPage : (status : ℕ) → ℕ → (context context' : ℕ) → (old new : List ℕ) → (reported : ℕ) → Type 0
+ReportsNoPage status code context context' old new reported = FillsNothing status code old new reported × (context' ≡ context)
 
 -- Entries are written, and the context after them reported: they are the beginning of a buffer, and the rest of it stays. In
 -- one that is too small nothing is written.
-abbrev pub TellsEntries : (status : ℕ) → Status → List Listed → (behind context context' : ℕ) → (old new : List ℕ) → (told : ℕ) → Type 0
-TellsEntries status ended entries behind context context' old new told =
+abbrev pub ReportsEntries : (status : ℕ) → Status → List Listed → (behind context context' : ℕ) → (old new : List ℕ) → (reported : ℕ) → Type 0
+ReportsEntries status ended entries behind context context' old new reported =
     MatchBool (nat_le (length (page_bytes entries)) (length old))
-    ((status ≡ code_of ended) × (new ≡ page_bytes entries ++ drop (length (page_bytes entries)) old) × (told ≡ length (page_bytes entries)) × (context' ≡ behind))
-    (TellsNoPage status (code_of BufferTooSmall) context context' old new told)
+    ((status ≡ code_of ended) × (new ≡ page_bytes entries ++ drop (length (page_bytes entries)) old) × (reported ≡ length (page_bytes entries)) × (context' ≡ behind))
+    (ReportsNoPage status (code_of BufferTooSmall) context context' old new reported)
 
 -- the report of a page that a reply gives
-abbrev pub TellsPageOf : (status : ℕ) → Status → Given → (context context' : ℕ) → (old new : List ℕ) → (told : ℕ) → Type 0
-TellsPageOf status ended Nothing context context' old new told = TellsNoPage status (code_of ended) context context' old new told
-TellsPageOf status ended (Handle value) context context' old new told = TellsNoPage status (code_of ended) context context' old new told
-TellsPageOf status ended (Text text) context context' old new told = TellsNoPage status (code_of ended) context context' old new told
-TellsPageOf status ended (Process child handles) context context' old new told = TellsNoPage status (code_of ended) context context' old new told
-TellsPageOf status ended (Page entries behind) context context' old new told = TellsEntries status ended entries behind context context' old new told
+abbrev pub ReportsPageOf : (status : ℕ) → Status → Given → (context context' : ℕ) → (old new : List ℕ) → (reported : ℕ) → Type 0
+ReportsPageOf status ended Nothing context context' old new reported = ReportsNoPage status (code_of ended) context context' old new reported
+ReportsPageOf status ended (Handle value) context context' old new reported = ReportsNoPage status (code_of ended) context context' old new reported
+ReportsPageOf status ended (Text text) context context' old new reported = ReportsNoPage status (code_of ended) context context' old new reported
+ReportsPageOf status ended (Process child handles) context context' old new reported = ReportsNoPage status (code_of ended) context context' old new reported
+ReportsPageOf status ended (Page entries behind) context context' old new reported = ReportsEntries status ended entries behind context context' old new reported
 
-abbrev pub TellsPage : (status : ℕ) → (context context' : ℕ) → (old new : List ℕ) → (told : ℕ) → Result Reply Status → Type 0
-TellsPage status context context' old new told (Ok reply) = TellsPageOf status reply.status reply.given context context' old new told
-TellsPage status context context' old new told (Err why) = TellsNoPage status (code_of why) context context' old new told
+abbrev pub ReportsPage : (status : ℕ) → (context context' : ℕ) → (old new : List ℕ) → (reported : ℕ) → Result Reply Status → Type 0
+ReportsPage status context context' old new reported (Ok reply) = ReportsPageOf status reply.status reply.given context context' old new reported
+ReportsPage status context context' old new reported (Err why) = ReportsNoPage status (code_of why) context context' old new reported

@@ -14,9 +14,9 @@ use Rattle.ob_model.specs.declared.reply.Given.TheVariants.{Nothing, Handle, Tex
 use Rattle.ob_model.specs.declared.reply.Reply.{Reply}
 use Rattle.ob_c_state.specs.Machine.{Space}
 use Rattle.ob_c_state.specs.Calls.{Ends}
-use Rattle.ob_c_state.specs.Told.{given_in}
+use Rattle.ob_c_state.specs.Reports.{given_in}
 use Rattle.ob_numbers.specs.Types.{IsTypeNumber}
-use Rattle.ob_c.specs.declared.rows.Row.{Row}
+use Rattle.ob_c.specs.declared.rows.PageRow.{PageRow}
 use Rattle.ob_c.specs.declared.rows.Progress.{Progress}
 
 -- the bytes of a buffer that names are written to
@@ -50,7 +50,7 @@ status_of (Err status) = status
 -- an entry that was read: its name, and its row
 pub record Read : Type 0 where
   pub name : List ℕ
-  pub row : Row
+  pub row : PageRow
 
 abbrev pub names_of : List Read → List ℕ
 names_of [] = []
@@ -95,13 +95,13 @@ rows_status (Some entry) filled status = status_with filled
 
 -- the number of rows and the context after them are reported; or the call is refused, the number is 0, and
 -- the context stays
-abbrev pub TellsProgress : Result Status Status → Progress → (status context context' filled : ℕ) → Type 0
-TellsProgress (Ok is) progress status context context' filled = (status ≡ code_of is) × (context' ≡ progress.context) × (filled ≡ progress.filled)
-TellsProgress (Err is) progress status context context' filled = (status ≡ code_of is) × (context' ≡ context) × (filled ≡ 0)
+abbrev pub ReportsProgress : Result Status Status → Progress → (status context context' filled : ℕ) → Type 0
+ReportsProgress (Ok is) progress status context context' filled = (status ≡ code_of is) × (context' ≡ progress.context) × (filled ≡ progress.filled)
+ReportsProgress (Err is) progress status context context' filled = (status ≡ code_of is) × (context' ≡ context) × (filled ≡ 0)
 
 -- Rows are filled from a state on: these entries are read into the rows and the buffer, and the query after them gives none,
 -- or one that is too much.
-abbrev pub FillsRows : (process handle : ℕ) → (s t : Space) → (status context context' : ℕ) → (rows rows' : List Row) → (buffer buffer' : List ℕ) → (filled : ℕ) → Type 0
+abbrev pub FillsRows : (process handle : ℕ) → (s t : Space) → (status context context' : ℕ) → (rows rows' : List PageRow) → (buffer buffer' : List ℕ) → (filled : ℕ) → Type 0
 FillsRows process handle s t status context context' rows rows' buffer buffer' filled =
     (reads : List Read) × (progress : Progress) × (ended : Result Reply Status) × (u : Space)
     × Reads process handle (record { filled = 0; place = 0; context = context }) s reads progress u
@@ -110,17 +110,17 @@ FillsRows process handle s t status context context' rows rows' buffer buffer' f
     × (buffer' ≡ names_of reads ++ drop progress.place buffer)
     × (progress.place ≤ names_room (length buffer))
     × IsTooMuch (length rows) (names_room (length buffer)) progress (entry_in ended)
-    × TellsProgress (rows_status (entry_in ended) progress.filled (status_of ended)) progress status context context' filled
+    × ReportsProgress (rows_status (entry_in ended) progress.filled (status_of ended)) progress status context context' filled
 
 -- the same in a namespace that may be closed
-abbrev pub TellsRows : (process handle : ℕ) → (old new : Option Space) → (status context context' : ℕ) → (rows rows' : List Row) → (buffer buffer' : List ℕ) → (filled : ℕ) → Type 0
-TellsRows process handle None new status context context' rows rows' buffer buffer' filled =
+abbrev pub ReportsRows : (process handle : ℕ) → (old new : Option Space) → (status context context' : ℕ) → (rows rows' : List PageRow) → (buffer buffer' : List ℕ) → (filled : ℕ) → Type 0
+ReportsRows process handle None new status context context' rows rows' buffer buffer' filled =
     (new ≡ None) × (status ≡ code_of InvalidParameter) × (context' ≡ context) × (rows' ≡ rows) × (buffer' ≡ buffer) × (filled ≡ 0)
-TellsRows process handle (Some s) new status context context' rows rows' buffer buffer' filled =
+ReportsRows process handle (Some s) new status context context' rows rows' buffer buffer' filled =
     (t : Space) × (new ≡ Some t) × FillsRows process handle s t status context context' rows rows' buffer buffer' filled
 
 -- an entry is written to a row and a buffer
-abbrev pub Takes : Option (Listed × ℕ) → (room : ℕ) → (old new : Progress) → (rows rows' : List Row) → (buffer buffer' : List ℕ) → Type 0
+abbrev pub Takes : Option (Listed × ℕ) → (room : ℕ) → (old new : Progress) → (rows rows' : List PageRow) → (buffer buffer' : List ℕ) → Type 0
 Takes entry room old new rows rows' buffer buffer' =
     (read : Read) × IsRead old.place entry read × (old.filled < length rows) × (old.place + length read.name ≤ room)
     × (new ≡ record { filled = old.filled + 1; place = old.place + length read.name; context = read.row.context })
@@ -128,6 +128,6 @@ Takes entry room old new rows rows' buffer buffer' =
     × (buffer' ≡ take old.place buffer ++ read.name ++ drop (old.place + length read.name) buffer)
 
 -- or it isn't, since there is none or it is too much
-abbrev pub Leaves : Option (Listed × ℕ) → (room : ℕ) → (old new : Progress) → (rows rows' : List Row) → (buffer buffer' : List ℕ) → Type 0
+abbrev pub Leaves : Option (Listed × ℕ) → (room : ℕ) → (old new : Progress) → (rows rows' : List PageRow) → (buffer buffer' : List ℕ) → Type 0
 Leaves entry room old new rows rows' buffer buffer' =
     (new ≡ old) × (rows' ≡ rows) × (buffer' ≡ buffer) × IsTooMuch (length rows) room old entry

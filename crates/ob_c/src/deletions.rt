@@ -2,7 +2,7 @@
 
 ghost use Rattle.std.specs.Prelude.{◌≡◌, Some};
 ghost use Rattle.ob_host.specs.Deletions.{next_deletion};
-ghost use Rattle.ob_c.specs.Deletions.{TellsDeletion, TellsNext, deletion_told, no_deletion};
+ghost use Rattle.ob_c.specs.Deletions.{ReportsDeletion, ReportsNext, deletion_reported, no_deletion};
 
 use ob_base::Status;
 use ob_c_state::{HostCore, Ntns};
@@ -30,32 +30,32 @@ pub struct Deletion {
 /// changes. (this profile)
 #[unsafe(no_mangle)]
 pub extern "C" fn ntns_next_deletion(ns: &mut Ntns, alloc: Global, deletion: &mut Deletion) -> u32
-    ensures { TellsDeletion ns.old.core ns.new.core result deletion.new }
+    ensures { ReportsDeletion ns.old.core ns.new.core result deletion.new }
 {
     *deletion = no_deletion();
     let Some(mut core) = ns.take(alloc) else {
         return Status::InvalidParameter.code();
     };
-    let status = tell_next(&mut core, deletion);
+    let status = report_next(&mut core, deletion);
     ns.put(core);
     status
 }
 
 // Reports the first deletion that wasn't reported yet.
-fn tell_next(core: &mut HostCore, deletion: &mut Deletion) -> u32
-    ensures { TellsNext (next_deletion core.old.set) core.old (Some core.new) result deletion.new }
+fn report_next(core: &mut HostCore, deletion: &mut Deletion) -> u32
+    ensures { ReportsNext (next_deletion core.old.set) core.old (Some core.new) result deletion.new }
 {
     let Some(next) = core.take_next() else {
         *deletion = no_deletion();
         return Status::NoMoreEntries.code();
     };
-    *deletion = deletion_told(&next);
+    *deletion = deletion_reported(&next);
     Status::Success.code()
 }
 
 // A deletion as a caller in C reads it.
-fn deletion_told(deletion: &HostDeletion) -> Deletion
-    ensures { result ≡ deletion_told deletion.now }
+fn deletion_reported(deletion: &HostDeletion) -> Deletion
+    ensures { result ≡ deletion_reported deletion.now }
 {
     Deletion {
         number: type_of_kind(deletion.kind),

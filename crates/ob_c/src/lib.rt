@@ -26,4 +26,4 @@ pub use deletions::Deletion;
 pub use listing::HandleRow;
 pub use ob_c_state::Ntns;
 pub use pending::BegunOpen;
-pub use rows::Row;
+pub use rows::PageRow;

@@ -9,7 +9,7 @@ ghost use Rattle.ob_host.specs.Kept.{Kept};
 ghost use Rattle.ob_host.specs.declared.object.HostObject.{HostObject};
 ghost use Rattle.ob_model.specs.State.{body_of, held_of};
 ghost use Rattle.ob_model.specs.declared.state.Body.{Body};
-ghost use Rattle.ob_c.specs.Handles.{TellsHandleOf, TellsHeld, TellsNextHandle, TellsNextIn, TellsNextProcess, context_after, count_told, flag_told, handle_told, no_handle};
+ghost use Rattle.ob_c.specs.Handles.{ReportsHandleOf, ReportsHeld, ReportsNextHandle, ReportsNextIn, ReportsNextProcess, context_after, count_reported, flag_reported, handle_reported, no_handle};
 
 use crate::referents::{id_of, type_of, user_data_of};
 use ob_base::{Handle, Proc, Status};
@@ -49,20 +49,20 @@ pub struct HandleRow {
 /// NtQuerySystemInformation (Windows); the numbers are this profile.
 #[unsafe(no_mangle)]
 pub extern "C" fn ntns_next_process(ns: &mut Ntns, alloc: Global, process: &mut u32) -> u32
-    ensures told { TellsNextProcess ns.old.core process.old process.new result }
+    ensures reported { ReportsNextProcess ns.old.core process.old process.new result }
     ensures same { ns.new.core ≡ ns.old.core }
 {
     let Some(core) = ns.take(alloc) else {
         return Status::InvalidParameter.code();
     };
-    let status = tell_next_process(&core, process);
+    let status = report_next_process(&core, process);
     ns.put(core);
     status
 }
 
 // Reports the live process of the least number above another.
-fn tell_next_process(core: &HostCore, process: &mut u32) -> u32
-    ensures { TellsNextIn core.now process.old process.new result }
+fn report_next_process(core: &HostCore, process: &mut u32) -> u32
+    ensures { ReportsNextIn core.now process.old process.new result }
 {
     let Some(next) = core.read().process_after(Proc(*process)) else {
         return Status::NoMoreEntries.code();
@@ -85,21 +85,26 @@ pub extern "C" fn ntns_next_handle(
     context: &mut u64,
     handle: &mut HandleRow,
 ) -> u32
-    ensures told { TellsNextHandle ns.old.core process context.old context.new result handle.new }
+    ensures reported { ReportsNextHandle ns.old.core process context.old context.new result handle.new }
     ensures same { ns.new.core ≡ ns.old.core }
 {
     *handle = no_handle();
     let Some(core) = ns.take(alloc) else {
         return Status::InvalidParameter.code();
     };
-    let status = tell_next_handle(&core, process, context, handle);
+    let status = report_next_handle(&core, process, context, handle);
     ns.put(core);
     status
 }
 
 // Reports the first handle of a process that was opened after a context.
-fn tell_next_handle(core: &HostCore, process: u32, context: &mut u64, handle: &mut HandleRow) -> u32
-    ensures told { TellsHeld core.now (handle_after core.now process context.old) NoMoreEntries result
+fn report_next_handle(
+    core: &HostCore,
+    process: u32,
+    context: &mut u64,
+    handle: &mut HandleRow,
+) -> u32
+    ensures reported { ReportsHeld core.now (handle_after core.now process context.old) NoMoreEntries result
         handle.new }
     ensures context { context.new
         ≡ context_after context.old (handle_after core.now process context.old) }
@@ -111,7 +116,7 @@ fn tell_next_handle(core: &HostCore, process: u32, context: &mut u64, handle: &m
         return Status::NoMoreEntries.code();
     };
     *context = held.order;
-    *handle = handle_told(space, held);
+    *handle = handle_reported(space, held);
     Status::Success.code()
 }
 
@@ -128,21 +133,21 @@ pub extern "C" fn ntns_query_handle(
     value: u32,
     handle: &mut HandleRow,
 ) -> u32
-    ensures told { TellsHandleOf ns.old.core process value result handle.new }
+    ensures reported { ReportsHandleOf ns.old.core process value result handle.new }
     ensures same { ns.new.core ≡ ns.old.core }
 {
     *handle = no_handle();
     let Some(core) = ns.take(alloc) else {
         return Status::InvalidParameter.code();
     };
-    let status = tell_handle_of(&core, process, value, handle);
+    let status = report_handle_of(&core, process, value, handle);
     ns.put(core);
     status
 }
 
 // Reports the handle of a value.
-fn tell_handle_of(core: &HostCore, process: u32, value: u32, handle: &mut HandleRow) -> u32
-    ensures { TellsHeld core.now (option_and_then (held_of core.now process) (key_of value))
+fn report_handle_of(core: &HostCore, process: u32, value: u32, handle: &mut HandleRow) -> u32
+    ensures { ReportsHeld core.now (option_and_then (held_of core.now process) (key_of value))
         InvalidHandle result handle.new }
 {
     let space = core.read();
@@ -151,15 +156,15 @@ fn tell_handle_of(core: &HostCore, process: u32, value: u32, handle: &mut Handle
         *handle = no_handle();
         return Status::InvalidHandle.code();
     };
-    *handle = handle_told(space, held);
+    *handle = handle_reported(space, held);
     Status::Success.code()
 }
 
 // A handle as a caller in C reads it. Its object is there.
-fn handle_told(core: &Core<HostSet, SlabTable>, held: Held) -> HandleRow
+fn handle_reported(core: &Core<HostSet, SlabTable>, held: Held) -> HandleRow
     requires { IsSome (body_of core.now held.object) }
     ensures { (body : Body HostObject Kept) × (body_of core.now held.object ≡ Some body)
-        × (result ≡ handle_told core.now held body) }
+        × (result ≡ handle_reported core.now held body) }
 {
     let object = held.object;
     let Some(referent) = core.object(object) else {
@@ -170,16 +175,16 @@ fn handle_told(core: &Core<HostSet, SlabTable>, held: Held) -> HandleRow
         number: type_of(&referent),
         user_data: user_data_of(&referent),
         id: id_of(object, &referent),
-        inherit: flag_told(held.inherit),
-        permanent: flag_told(core.is_permanent(object)),
-        exclusive: flag_told(core.is_exclusive(object)),
-        handles: count_told(core.count_of(object)),
+        inherit: flag_reported(held.inherit),
+        permanent: flag_reported(core.is_permanent(object)),
+        exclusive: flag_reported(core.is_exclusive(object)),
+        handles: count_reported(core.count_of(object)),
     }
 }
 
 // A count as a caller in C reads it: at most the greatest u32.
-fn count_told(count: usize) -> u32
-    ensures { result ≡ count_told count }
+fn count_reported(count: usize) -> u32
+    ensures { result ≡ count_reported count }
 {
     if count > 4_294_967_295 {
         return 4_294_967_295;
@@ -188,8 +193,8 @@ fn count_told(count: usize) -> u32
 }
 
 // A flag as a caller in C reads it.
-fn flag_told(flag: bool) -> u8
-    ensures { result ≡ flag_told flag }
+fn flag_reported(flag: bool) -> u8
+    ensures { result ≡ flag_reported flag }
 {
     if flag { 1 } else { 0 }
 }

@@ -2,11 +2,11 @@
 
 ghost use Rattle.ob_model.specs.declared.command.Command.TheVariants.{CreateDirectory, CreateShadowed, CreateLink, CreateObject};
 ghost use Rattle.ob_c_state.specs.Calls.{Does, DoesOfType, arguments_of, place_of};
-ghost use Rattle.ob_c_state.specs.Told.{TellsHandle};
+ghost use Rattle.ob_c_state.specs.Reports.{ReportsHandle};
 
 use ob_base::Status;
 use ob_c_state::{
-    Ntns, call, create_directory, create_link, create_object, create_shadowed, tell_handle,
+    Ntns, call, create_directory, create_link, create_object, create_shadowed, report_handle,
 };
 use ob_numbers::kind_of;
 use std::alloc::Global;
@@ -28,10 +28,10 @@ pub extern "C" fn ntns_create_directory_raw(
     handle: &mut u32,
 ) -> u32
     ensures { Does process (CreateDirectory (place_of named root name.now) attributes)
-        ns.old.core ns.new.core (TellsHandle result handle.new) }
+        ns.old.core ns.new.core (ReportsHandle result handle.new) }
 {
     let made = create_directory(alloc, root, named, name, attributes);
-    tell_handle(&call(ns, alloc, process, made), handle)
+    report_handle(&call(ns, alloc, process, &made), handle)
 }
 
 /// Creates a directory with a shadow, at a name, or without one if `named` is false, and opens a handle to it. `root` is
@@ -54,10 +54,10 @@ pub extern "C" fn ntns_create_shadowed_raw(
     handle: &mut u32,
 ) -> u32
     ensures { Does process (CreateShadowed (place_of named root name.now) attributes shadow)
-        ns.old.core ns.new.core (TellsHandle result handle.new) }
+        ns.old.core ns.new.core (ReportsHandle result handle.new) }
 {
     let made = create_shadowed(alloc, root, named, name, attributes, shadow);
-    tell_handle(&call(ns, alloc, process, made), handle)
+    report_handle(&call(ns, alloc, process, &made), handle)
 }
 
 /// Creates a symbolic link to a target, at a name, or without one if `named` is false, and opens a handle to it. `root` is
@@ -78,10 +78,10 @@ pub extern "C" fn ntns_create_link_raw(
     handle: &mut u32,
 ) -> u32
     ensures { Does process (CreateLink (place_of named root name.now) attributes target.now)
-        ns.old.core ns.new.core (TellsHandle result handle.new) }
+        ns.old.core ns.new.core (ReportsHandle result handle.new) }
 {
     let made = create_link(alloc, root, named, name, attributes, target);
-    tell_handle(&call(ns, alloc, process, made), handle)
+    report_handle(&call(ns, alloc, process, &made), handle)
 }
 
 /// Creates an object of the kind of a type's number, with user data of the caller's, at a name, or without one if `named` is
@@ -106,12 +106,12 @@ pub extern "C" fn ntns_create_object_raw(
 ) -> u32
     ensures { DoesOfType number process (λ kind.
         CreateObject (place_of named root name.now) attributes kind (arguments_of user_data))
-        ns.old.core ns.new.core (TellsHandle result handle.new) }
+        ns.old.core ns.new.core (ReportsHandle result handle.new) }
 {
     let Some(kind) = kind_of(number) else {
         *handle = 0;
         return Status::InvalidParameter.code();
     };
     let made = create_object(alloc, root, named, name, attributes, kind, user_data);
-    tell_handle(&call(ns, alloc, process, made), handle)
+    report_handle(&call(ns, alloc, process, &made), handle)
 }

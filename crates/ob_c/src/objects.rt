@@ -2,7 +2,7 @@
 
 ghost use Rattle.std.specs.Prelude.{◌≡◌};
 ghost use Rattle.ob_core.specs.Referent.{referent_at};
-ghost use Rattle.ob_c.specs.Objects.{has_text, TellsFile, TellsObject, TellsReferent, TellsReferentText};
+ghost use Rattle.ob_c.specs.Objects.{has_text, ReportsFile, ReportsObject, ReportsReferent, ReportsReferentText};
 
 use crate::referents::{id_of, type_of, user_data_of};
 use ob_base::Status;
@@ -28,7 +28,7 @@ pub extern "C" fn ntns_query_object(
     user_data: &mut u64,
     id: &mut u64,
 ) -> u32
-    ensures told { TellsObject ns.old.core process handle result number.new user_data.new id.new }
+    ensures reported { ReportsObject ns.old.core process handle result number.new user_data.new id.new }
     ensures same { ns.new.core ≡ ns.old.core }
 {
     *number = 0;
@@ -37,13 +37,13 @@ pub extern "C" fn ntns_query_object(
     let Some(core) = ns.take(alloc) else {
         return Status::InvalidParameter.code();
     };
-    let status = tell_object(&core, process, handle, number, user_data, id);
+    let status = report_object(&core, process, handle, number, user_data, id);
     ns.put(core);
     status
 }
 
 // Reports the object of a process's handle; three zeros if it has no such handle.
-fn tell_object(
+fn report_object(
     core: &HostCore,
     process: u32,
     handle: u32,
@@ -51,7 +51,7 @@ fn tell_object(
     user_data: &mut u64,
     id: &mut u64,
 ) -> u32
-    ensures { TellsReferent (referent_at core.now process handle) result number.new user_data.new
+    ensures { ReportsReferent (referent_at core.now process handle) result number.new user_data.new
         id.new }
 {
     let Some((object, referent)) = core.referent(process, handle) else {
@@ -81,26 +81,26 @@ pub extern "C" fn ntns_query_file_raw(
     buffer: &mut [u8],
     length: &mut usize,
 ) -> u32
-    ensures told { TellsFile ns.old.core process handle result buffer.old buffer.new length.new }
+    ensures reported { ReportsFile ns.old.core process handle result buffer.old buffer.new length.new }
     ensures same { ns.new.core ≡ ns.old.core }
 {
     let Some(core) = ns.take(alloc) else {
         return fill_nothing(Status::InvalidParameter, length);
     };
-    let status = tell_file(&core, process, handle, buffer, length);
+    let status = report_file(&core, process, handle, buffer, length);
     ns.put(core);
     status
 }
 
 // Reports the text of the object of a process's handle.
-fn tell_file(
+fn report_file(
     core: &HostCore,
     process: u32,
     handle: u32,
     buffer: &mut [u8],
     length: &mut usize,
 ) -> u32
-    ensures { TellsReferentText (referent_at core.now process handle) result buffer.old buffer.new
+    ensures { ReportsReferentText (referent_at core.now process handle) result buffer.old buffer.new
         length.new }
 {
     match core.referent(process, handle) {

@@ -2,10 +2,10 @@
 
 ghost use Rattle.ob_model.specs.declared.command.Command.TheVariants.{OpenDirectory, OpenLink, OpenObject};
 ghost use Rattle.ob_c_state.specs.Calls.{Does, DoesOfAnyType, root_of};
-ghost use Rattle.ob_c_state.specs.Told.{TellsHandle};
+ghost use Rattle.ob_c_state.specs.Reports.{ReportsHandle};
 
 use ob_base::Status;
-use ob_c_state::{Ntns, call, open_directory, open_link, open_object, tell_handle};
+use ob_c_state::{Ntns, call, open_directory, open_link, open_object, report_handle};
 use ob_host::Kind;
 use ob_numbers::kind_of;
 use std::alloc::Global;
@@ -26,10 +26,10 @@ pub extern "C" fn ntns_open_directory_raw(
     handle: &mut u32,
 ) -> u32
     ensures { Does process (OpenDirectory (root_of root) name.now attributes)
-        ns.old.core ns.new.core (TellsHandle result handle.new) }
+        ns.old.core ns.new.core (ReportsHandle result handle.new) }
 {
     let made = open_directory(alloc, root, name, attributes);
-    tell_handle(&call(ns, alloc, process, made), handle)
+    report_handle(&call(ns, alloc, process, &made), handle)
 }
 
 /// Opens a handle to the symbolic link that a name leads to, which is not followed. `root` is the handle that the name is
@@ -48,10 +48,10 @@ pub extern "C" fn ntns_open_link_raw(
     handle: &mut u32,
 ) -> u32
     ensures { Does process (OpenLink (root_of root) name.now attributes)
-        ns.old.core ns.new.core (TellsHandle result handle.new) }
+        ns.old.core ns.new.core (ReportsHandle result handle.new) }
 {
     let made = open_link(alloc, root, name, attributes);
-    tell_handle(&call(ns, alloc, process, made), handle)
+    report_handle(&call(ns, alloc, process, &made), handle)
 }
 
 /// Opens a handle to the object that a name leads to, of the kind of a type's number, or of any type if that is 0. Each
@@ -74,7 +74,7 @@ pub extern "C" fn ntns_open_object_raw(
 ) -> u32
     ensures { DoesOfAnyType number process
         (λ want. OpenObject (root_of root) name.now attributes want)
-        ns.old.core ns.new.core (TellsHandle result handle.new) }
+        ns.old.core ns.new.core (ReportsHandle result handle.new) }
 {
     if number == 0 {
         return open_wanted(ns, alloc, process, root, name, attributes, None, handle);
@@ -107,8 +107,8 @@ fn open_wanted(
     handle: &mut u32,
 ) -> u32
     ensures { Does process (OpenObject (root_of root) name.now attributes want)
-        ns.old.core ns.new.core (TellsHandle result handle.new) }
+        ns.old.core ns.new.core (ReportsHandle result handle.new) }
 {
     let made = open_object(alloc, root, name, attributes, want);
-    tell_handle(&call(ns, alloc, process, made), handle)
+    report_handle(&call(ns, alloc, process, &made), handle)
 }

@@ -3,7 +3,7 @@
 ghost use Rattle.std.specs.Prelude.{◌≡◌, ◌+◌, ◌<◌, ◌≤◌, ◌++◌, false, drop, length, take};
 ghost use Rattle.ob_model.specs.declared.command.Command.TheVariants.{QueryDirectory};
 ghost use Rattle.ob_c_state.specs.Calls.{Does};
-ghost use Rattle.ob_c.specs.Pages.{PagesFit, TellsEntries, TellsPage, entry_bytes, page_bytes, room_left, room_within};
+ghost use Rattle.ob_c.specs.Pages.{PagesFit, ReportsEntries, ReportsPage, entry_bytes, page_bytes, room_left, room_within};
 ghost use Rattle.ob_numbers.specs.Texts.{zero_ended};
 
 use crate::queries::LARGEST_ROOM;
@@ -29,12 +29,12 @@ pub extern "C" fn ntns_next_page_raw(
     handle: u32,
     context: &mut u64,
     buffer: &mut [u8],
-    told: &mut usize,
+    reported: &mut usize,
 ) -> u32
     ensures { Does process
         (QueryDirectory handle context.old (room_within (length buffer.old)) false false)
         ns.old.core ns.new.core
-        (TellsPage result context.old context.new buffer.old buffer.new told.new) }
+        (ReportsPage result context.old context.new buffer.old buffer.new reported.new) }
 {
     let query = Command::QueryDirectory {
         handle: Handle(handle),
@@ -43,7 +43,12 @@ pub extern "C" fn ntns_next_page_raw(
         single: false,
         restart: false,
     };
-    tell_page(&call(ns, alloc, process, Ok(query)), context, buffer, told)
+    report_page(
+        &call(ns, alloc, process, &Ok(query)),
+        context,
+        buffer,
+        reported,
+    )
 }
 
 // The room of a page for a buffer of so many bytes.
@@ -63,49 +68,49 @@ pub fn pages_fit()
 
 /// Writes the entries of the page that a call gives, and reports how many bytes of a buffer they take: of each its name and
 /// the name of its type, a byte 0 after each. If they don't fit, nothing is written, and the status is `BufferTooSmall`.
-pub(crate) fn tell_page(
+pub(crate) fn report_page(
     ended: &Result<Reply, Status>,
     context: &mut u64,
     buffer: &mut [u8],
-    told: &mut usize,
+    reported: &mut usize,
 ) -> u32
-    ensures { TellsPage result context.old context.new buffer.old buffer.new told.new ended.now }
+    ensures { ReportsPage result context.old context.new buffer.old buffer.new reported.new ended.now }
 {
     match ended {
         Ok(reply) => match &reply.given {
             Given::Page {
                 entries,
                 context: behind,
-            } => tell_entries(
+            } => report_entries(
                 reply.status,
                 entries.as_slice(),
                 *behind,
                 context,
                 buffer,
-                told,
+                reported,
             ),
-            _ => fill_nothing(reply.status, told),
+            _ => fill_nothing(reply.status, reported),
         },
-        Err(status) => fill_nothing(*status, told),
+        Err(status) => fill_nothing(*status, reported),
     }
 }
 
 // Writes these entries, after which this context is.
-fn tell_entries(
+fn report_entries(
     status: Status,
     entries: &[Listed],
     behind: u64,
     context: &mut u64,
     buffer: &mut [u8],
-    told: &mut usize,
+    reported: &mut usize,
 ) -> u32
-    ensures { TellsEntries result status entries.now behind context.old context.new buffer.old
-        buffer.new told.new }
+    ensures { ReportsEntries result status entries.now behind context.old context.new buffer.old
+        buffer.new reported.new }
 {
     let Some(left) = room_behind(entries, buffer.len()) else {
-        return fill_nothing(Status::BufferTooSmall, told);
+        return fill_nothing(Status::BufferTooSmall, reported);
     };
-    *told = buffer.len() - left;
+    *reported = buffer.len() - left;
     *context = behind;
     write_entries(entries, buffer);
     status.code()

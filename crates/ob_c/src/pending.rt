@@ -13,12 +13,12 @@ ghost use Rattle.ob_model.specs.declared.state.Body.{Body};
 ghost use Rattle.ob_runner.specs.Begun.{IfWaits};
 ghost use Rattle.ob_c_state.specs.Calls.{root_of};
 ghost use Rattle.ob_c_state.specs.Pending.{CancelsOpen, EndsOpen};
-ghost use Rattle.ob_c.specs.Pending.{CopiesRest, TellsBegin, TellsBeginOfAnyType, TellsBegun, TellsPending, no_pending, pending_told};
-ghost use Rattle.ob_c_state.specs.Told.{TellsHandle};
+ghost use Rattle.ob_c.specs.Pending.{CopiesRest, ReportsBegin, ReportsBeginOfAnyType, ReportsBegun, ReportsPending, no_pending, pending_reported};
+ghost use Rattle.ob_c_state.specs.Reports.{ReportsHandle};
 
 use crate::referents::{id_of, type_of, user_data_of};
 use ob_base::Status;
-use ob_c_state::{HostCore, Ntns, open_object, tell_handle};
+use ob_c_state::{HostCore, Ntns, open_object, report_handle};
 use ob_core::Reply;
 use ob_host::Kind;
 use ob_numbers::kind_of;
@@ -65,7 +65,7 @@ pub extern "C" fn ntns_begin_open_raw(
     rest: &mut [u8],
     length: &mut usize,
 ) -> u32
-    ensures { TellsBeginOfAnyType number process
+    ensures { ReportsBeginOfAnyType number process
         (λ want. OpenObject (root_of root) name.now attributes want)
         ns.old.core ns.new.core result handle.new pending.new rest.old rest.new length.new }
 {
@@ -106,15 +106,15 @@ fn begin_wanted(
     rest: &mut [u8],
     length: &mut usize,
 ) -> u32
-    ensures { TellsBegin process (OpenObject (root_of root) name.now attributes want)
+    ensures { ReportsBegin process (OpenObject (root_of root) name.now attributes want)
         ns.old.core ns.new.core result handle.new pending.new rest.old rest.new length.new }
 {
     let made = open_object(alloc, root, name, attributes, want);
     let Some(mut core) = ns.take(alloc) else {
         return refuse(handle, pending, length);
     };
-    let begun = core.begin(process, made);
-    let status = tell_begun(&mut core, begun, handle, pending, rest, length);
+    let begun = core.begin(process, &made);
+    let status = report_begun(&mut core, begun, handle, pending, rest, length);
     ns.put(core);
     status
 }
@@ -133,7 +133,7 @@ fn refuse(handle: &mut u32, pending: &mut BegunOpen, length: &mut usize) -> u32
 }
 
 // Reports an open that was begun.
-fn tell_begun(
+fn report_begun(
     core: &mut HostCore,
     begun: Result<Begun, Status>,
     handle: &mut u32,
@@ -143,37 +143,37 @@ fn tell_begun(
 ) -> u32
     requires { IfOk begun (λ begun. IfWaits begun (λ ticket.
         IsSome (pending_of core.old ticket))) }
-    ensures { TellsBegun begun core.old core.new result handle.new pending.new rest.old rest.new
+    ensures { ReportsBegun begun core.old core.new result handle.new pending.new rest.old rest.new
         length.new }
 {
     match begun {
         Ok(Begun::Waits(ticket)) => {
             *handle = 0;
-            tell_pending(core, ticket, pending, rest, length)
+            report_pending(core, ticket, pending, rest, length)
         }
-        Ok(Begun::Replied(reply)) => tell_not_pending(Ok(reply), handle, pending, length),
-        Err(status) => tell_not_pending(Err(status), handle, pending, length),
+        Ok(Begun::Replied(reply)) => report_not_pending(Ok(reply), handle, pending, length),
+        Err(status) => report_not_pending(Err(status), handle, pending, length),
     }
 }
 
 // Reports an open that isn't pending.
-fn tell_not_pending(
+fn report_not_pending(
     ended: Result<Reply, Status>,
     handle: &mut u32,
     pending: &mut BegunOpen,
     length: &mut usize,
 ) -> u32
-    ensures handle { TellsHandle result handle.new ended }
+    ensures handle { ReportsHandle result handle.new ended }
     ensures pending { pending.new ≡ no_pending }
     ensures length { length.new ≡ 0 }
 {
     *pending = no_pending();
     *length = 0;
-    tell_handle(&ended, handle)
+    report_handle(&ended, handle)
 }
 
 // Reports a pending open; if its rest doesn't fit, it is abandoned.
-fn tell_pending(
+fn report_pending(
     core: &mut HostCore,
     ticket: u64,
     pending: &mut BegunOpen,
@@ -181,11 +181,11 @@ fn tell_pending(
     length: &mut usize,
 ) -> u32
     requires { IsSome (pending_of core.old ticket) }
-    ensures { TellsPending core.old ticket core.new result pending.new rest.old rest.new
+    ensures { ReportsPending core.old ticket core.new result pending.new rest.old rest.new
         length.new }
 {
     *pending = no_pending();
-    let met = pending_told(core, ticket);
+    let met = pending_reported(core, ticket);
     if !copy_rest(core, ticket, rest, length) {
         core.cancel(ticket);
         return Status::BufferTooSmall.code();
@@ -212,12 +212,12 @@ fn copy_rest(core: &HostCore, ticket: u64, buffer: &mut [u8], length: &mut usize
 }
 
 // A pending open as a caller in C reads it. The object at which it is pending is there.
-fn pending_told(core: &HostCore, ticket: u64) -> BegunOpen
+fn pending_reported(core: &HostCore, ticket: u64) -> BegunOpen
     requires { IsSome (pending_of core.now ticket) }
     ensures { (object : ℕ) × (body : Body HostObject Kept)
         × (option_map (λ pending. pending.object) (pending_of core.now ticket) ≡ Some object)
         × (body_of core.now object ≡ Some body)
-        × (result ≡ pending_told ticket object body) }
+        × (result ≡ pending_reported ticket object body) }
 {
     let space = core.read();
     space.state_is_sound();
@@ -255,14 +255,14 @@ fn no_pending() -> BegunOpen
 /// is pending no longer. Source: Windows Internals, Object Manager (parse methods); tickets are this profile.
 #[unsafe(no_mangle)]
 pub extern "C" fn ntns_end_open(ns: &mut Ntns, alloc: Global, ticket: u64, handle: &mut u32) -> u32
-    ensures { EndsOpen ticket ns.old.core ns.new.core (TellsHandle result handle.new) }
+    ensures { EndsOpen ticket ns.old.core ns.new.core (ReportsHandle result handle.new) }
 {
     let Some(mut core) = ns.take(alloc) else {
-        return tell_handle(&Err(Status::InvalidParameter), handle);
+        return report_handle(&Err(Status::InvalidParameter), handle);
     };
     let ended = core.end(alloc, ticket);
     ns.put(core);
-    tell_handle(&ended, handle)
+    report_handle(&ended, handle)
 }
 
 /// Cancels a pending open: no parse is run, the object that it met is released, and no handle is given. It takes no memory.

@@ -2,7 +2,7 @@
 
 ghost use Rattle.ob_model.specs.declared.command.Command.TheVariants.{ExitProcess, NewProcess};
 ghost use Rattle.ob_c_state.specs.Calls.{Does};
-ghost use Rattle.ob_c_state.specs.Told.{TellsProcess, TellsStatus};
+ghost use Rattle.ob_c_state.specs.Reports.{ReportsProcess, ReportsStatus};
 
 use ob_c_state::{Ntns, call, process_in, status_in};
 use ob_core::Command;
@@ -22,9 +22,9 @@ pub extern "C" fn ntns_new_process(
     child: &mut u32,
 ) -> u32
     ensures { Does process (NewProcess inherit)
-        ns.old.core ns.new.core (TellsProcess result child.new) }
+        ns.old.core ns.new.core (ReportsProcess result child.new) }
 {
-    let ended = call(ns, alloc, process, Ok(Command::NewProcess { inherit }));
+    let ended = call(ns, alloc, process, &Ok(Command::NewProcess { inherit }));
     *child = process_in(&ended);
     status_in(&ended)
 }
@@ -36,7 +36,7 @@ pub extern "C" fn ntns_new_process(
 /// Source: Windows Internals, Processes.
 #[unsafe(no_mangle)]
 pub extern "C" fn ntns_exit_process(ns: &mut Ntns, alloc: Global, process: u32) -> u32
-    ensures { Does process ExitProcess ns.old.core ns.new.core (TellsStatus result) }
+    ensures { Does process ExitProcess ns.old.core ns.new.core (ReportsStatus result) }
 {
-    status_in(&call(ns, alloc, process, Ok(Command::ExitProcess)))
+    status_in(&call(ns, alloc, process, &Ok(Command::ExitProcess)))
 }

@@ -4,10 +4,10 @@ ghost use Rattle.std.specs.Prelude.{true, false};
 ghost use Rattle.ob_model.specs.Enumeration.{largest_room};
 ghost use Rattle.ob_model.specs.declared.command.Command.TheVariants.{QueryDirectory, QueryLink, QueryName};
 ghost use Rattle.ob_c_state.specs.Calls.{Does};
-ghost use Rattle.ob_c_state.specs.Told.{TellsEntry, TellsText};
+ghost use Rattle.ob_c_state.specs.Reports.{ReportsEntry, ReportsText};
 
 use ob_base::Handle;
-use ob_c_state::{Ntns, call, tell_entry, tell_text};
+use ob_c_state::{Ntns, call, report_entry, report_text};
 use ob_core::Command;
 use std::alloc::Global;
 
@@ -30,12 +30,12 @@ pub extern "C" fn ntns_query_link_raw(
     length: &mut usize,
 ) -> u32
     ensures { Does process (QueryLink handle) ns.old.core ns.new.core
-        (TellsText result buffer.old buffer.new length.new) }
+        (ReportsText result buffer.old buffer.new length.new) }
 {
     let query = Command::QueryLink {
         handle: Handle(handle),
     };
-    tell_text(&call(ns, alloc, process, Ok(query)), buffer, length)
+    report_text(&call(ns, alloc, process, &Ok(query)), buffer, length)
 }
 
 /// Writes the path of the object of a handle of a process into a buffer, and reports its length; it is empty if no path
@@ -54,12 +54,12 @@ pub extern "C" fn ntns_query_name_raw(
     length: &mut usize,
 ) -> u32
     ensures { Does process (QueryName handle) ns.old.core ns.new.core
-        (TellsText result buffer.old buffer.new length.new) }
+        (ReportsText result buffer.old buffer.new length.new) }
 {
     let query = Command::QueryName {
         handle: Handle(handle),
     };
-    tell_text(&call(ns, alloc, process, Ok(query)), buffer, length)
+    report_text(&call(ns, alloc, process, &Ok(query)), buffer, length)
 }
 
 /// Writes the name of the next entry of the directory of a handle of a process into a buffer, and reports its length and the
@@ -82,7 +82,7 @@ pub extern "C" fn ntns_next_entry_raw(
 ) -> u32
     ensures { Does process (QueryDirectory handle context.old largest_room true false)
         ns.old.core ns.new.core
-        (TellsEntry result context.old context.new buffer.old buffer.new length.new number.new) }
+        (ReportsEntry result context.old context.new buffer.old buffer.new length.new number.new) }
 {
     let query = Command::QueryDirectory {
         handle: Handle(handle),
@@ -91,6 +91,6 @@ pub extern "C" fn ntns_next_entry_raw(
         single: true,
         restart: false,
     };
-    let ended = call(ns, alloc, process, Ok(query));
-    tell_entry(&ended, context, buffer, length, number)
+    let ended = call(ns, alloc, process, &Ok(query));
+    report_entry(&ended, context, buffer, length, number)
 }

@@ -2,7 +2,7 @@
 
 ghost use Rattle.std.specs.Prelude.{◌≡◌, ◌≤◌, ◌<◌, ◌+◌, ◌++◌, ◌∷◌, MatchBool, drop, length, take};
 ghost use Rattle.std.specs.Option.{option_map};
-ghost use Rattle.ob_c.specs.Rows.{Asks, FillsRows, Leaves, Takes, TellsProgress, TellsRows, entry_in, names_room, none_left, rows_status, status_of};
+ghost use Rattle.ob_c.specs.Rows.{Asks, FillsRows, Leaves, Takes, ReportsProgress, ReportsRows, entry_in, names_room, none_left, rows_status, status_of};
 
 use crate::queries::LARGEST_ROOM;
 use ob_base::{Handle, Status};
@@ -15,7 +15,7 @@ use std::alloc::Global;
 /// A row of a directory's listing, as a caller in C reads it. (this profile)
 #[repr(C)]
 #[derive(Clone, Copy)]
-pub struct Row {
+pub struct PageRow {
     /// The context after the entry.
     pub context: u64,
     /// The number of its object's type.
@@ -50,11 +50,11 @@ pub extern "C" fn ntns_next_rows_raw(
     process: u32,
     handle: u32,
     context: &mut u64,
-    rows: &mut [Row],
+    rows: &mut [PageRow],
     buffer: &mut [u8],
     filled: &mut usize,
 ) -> u32
-    ensures { TellsRows process handle ns.old.core ns.new.core result context.old context.new
+    ensures { ReportsRows process handle ns.old.core ns.new.core result context.old context.new
         rows.old rows.new buffer.old buffer.new filled.new }
 {
     *filled = 0;
@@ -75,7 +75,7 @@ fn fill_rows(
     process: u32,
     handle: u32,
     context: &mut u64,
-    rows: &mut [Row],
+    rows: &mut [PageRow],
     buffer: &mut [u8],
     filled: &mut usize,
 ) -> u32
@@ -92,7 +92,7 @@ fn fill_rows(
     while take_row(&ended, room, &mut progress, rows, buffer) {
         ended = ask(core, alloc, process, handle, progress.context);
     }
-    tell_progress(
+    report_progress(
         rows_status(&ended, progress.filled),
         &progress,
         context,
@@ -117,7 +117,7 @@ fn ask(
         single: true,
         restart: false,
     };
-    core.run(alloc, process, Ok(query))
+    core.run(alloc, process, &Ok(query))
 }
 
 // The bytes of a buffer that names are written to.
@@ -149,7 +149,7 @@ fn take_row(
     ended: &Result<Reply, Status>,
     room: usize,
     progress: &mut Progress,
-    rows: &mut [Row],
+    rows: &mut [PageRow],
     buffer: &mut [u8],
 ) -> bool
     requires within { progress.old.place ≤ room }
@@ -168,7 +168,7 @@ fn take_row(
     if progress.filled == rows.len() || name.len() > room - progress.place {
         return false;
     }
-    let row = Row {
+    let row = PageRow {
         context,
         number: type_named(entry.type_name.as_str()),
         name: progress.place as u32,
@@ -185,7 +185,7 @@ fn take_row(
 }
 
 // Writes a row at a place of the rows.
-fn put_row(row: Row, rows: &mut [Row], place: usize)
+fn put_row(row: PageRow, rows: &mut [PageRow], place: usize)
     requires { place < length rows.old }
     ensures { rows.new ≡ take place rows.old ++ row ∷ drop (place + 1) rows.old }
 {
@@ -238,13 +238,13 @@ fn none_left(status: Status) -> Result<Status, Status>
 }
 
 // Reports how many rows were filled and the context after them, or that the call is refused.
-fn tell_progress(
+fn report_progress(
     is: Result<Status, Status>,
     progress: &Progress,
     context: &mut u64,
     filled: &mut usize,
 ) -> u32
-    ensures { TellsProgress is progress.now result context.old context.new filled.new }
+    ensures { ReportsProgress is progress.now result context.old context.new filled.new }
 {
     match is {
         Ok(status) => {

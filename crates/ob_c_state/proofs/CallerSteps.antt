@@ -74,10 +74,10 @@ pub core_there : (c : Option Core.the_row.Denot) → is_open c ≡ true → (x :
 core_there None e = cc
 core_there (Some x) e = (x, refl)
 
--- the flag tells whether one is
-pub flag_tells : (c : Option Core.the_row.Denot) (n : ℕ) → n ≡ flag_of c → eqb n 1 ≡ is_open c
-flag_tells None n e = ap (λ m. eqb m 1) e
-flag_tells (Some x) n e = ap (λ m. eqb m 1) e
+-- the flag says whether one is
+pub flag_says : (c : Option Core.the_row.Denot) (n : ℕ) → n ≡ flag_of c → eqb n 1 ≡ is_open c
+flag_says None n e = ap (λ m. eqb m 1) e
+flag_says (Some x) n e = ap (λ m. eqb m 1) e
 
 module _ {M : Type 1} {𝓤 : Ura M} {𝓛 : Logic 𝓤} {K : Type 0} {Γ : List (Item 𝓤)} {G : Goal 𝓤 𝓛.H} where
   pub caller_out : K → (d : Ntns) (vs : List Val)

@@ -13,7 +13,7 @@ use Rattle.ob_numbers.specs.Types.{type_of_kind}
 use Rattle.ob_runner.specs.declared.begun.Begun.{Begun}
 
 module _ {E : Type 0} (p : ℕ) where
-  -- what was taken out of a caller's struct tells whether it was open
+  -- what was taken out of a caller's struct says whether it was open
   pub call_closed : (made : Result (Command Kind) E) (old new : Option Space) → None ≡ old → new ≡ None → CallsMade p made old (Err InvalidParameter) new
   call_closed made old new is closed = subst (λ (o : Option Space). CallsMade p made o (Err InvalidParameter) new) is (refl, closed)
 
@@ -33,8 +33,8 @@ module _ {E : Type 0} (p : ℕ) where
 
   -- a command that was made of bytes of the caller's
   pub does_made : (made : Result (Command Kind) E) (command : Command Kind) → HasBytes command → IfOk made (λ c. c ≡ command) → (old new : Option Space) (ended : Result Reply Status)
-      → (Tells : Result Reply Status → Type 0) → CallsMade p made old ended new → Tells ended → Does p command old new Tells
-  does_made made command bytes is old new ended Tells calls tells = (ended, calls_made made command bytes is old new ended calls, tells)
+      → (reports : Result Reply Status → Type 0) → CallsMade p made old ended new → reports ended → Does p command old new reports
+  does_made made command bytes is old new ended reports calls report = (ended, calls_made made command bytes is old new ended calls, report)
 
   -- an open that was begun of bytes of the caller's
   pub begins_made : (made : Result (Command Kind) E) (command : Command Kind) → HasBytes command → IfOk made (λ c. c ≡ command) → (s t : Space) (begun : Result Begun Status)
@@ -47,22 +47,22 @@ calls_ok E p command None new ended calls = calls
 calls_ok E p command (Some s) new ended calls = calls
 
 -- a command that takes no bytes
-pub does : (E : Type 0) (p : ℕ) (command : Command Kind) (old new : Option Space) (ended : Result Reply Status) (Tells : Result Reply Status → Type 0) → CallsMade {E = E} p (Ok command) old ended new
-    → Tells ended → Does p command old new Tells
-does E p command old new ended Tells calls tells = (ended, calls_ok E p command old new ended calls, tells)
+pub does : (E : Type 0) (p : ℕ) (command : Command Kind) (old new : Option Space) (ended : Result Reply Status) (reports : Result Reply Status → Type 0) → CallsMade {E = E} p (Ok command) old ended new
+    → reports ended → Does p command old new reports
+does E p command old new ended reports calls report = (ended, calls_ok E p command old new ended calls, report)
 
 -- a command of any type, and of the kind of a number
-pub does_any_type : (n p : ℕ) (command : Option Kind → Command Kind) (old new : Option Space) (Tells : Result Reply Status → Type 0) → n ≡ 0 → Does p (command None) old new Tells
-    → DoesOfAnyType n p command old new Tells
-does_any_type zero p command old new Tells is does = does
-does_any_type (suc n) p command old new Tells is does = absurd (omega (arith, is))
+pub does_any_type : (n p : ℕ) (command : Option Kind → Command Kind) (old new : Option Space) (reports : Result Reply Status → Type 0) → n ≡ 0 → Does p (command None) old new reports
+    → DoesOfAnyType n p command old new reports
+does_any_type zero p command old new reports is does = does
+does_any_type (suc n) p command old new reports is does = absurd (omega (arith, is))
 
-pub does_of_a_kind : (n p : ℕ) (command : Option Kind → Command Kind) (old new : Option Space) (Tells : Result Reply Status → Type 0) (kind : Kind) → n ≡ type_of_kind kind
-    → Does p (command (Some kind)) old new Tells → DoesOfAnyType n p command old new Tells
-does_of_a_kind zero p command old new Tells kind is does = absurd (omega (arith, is))
-does_of_a_kind (suc n) p command old new Tells kind is does = inl (kind, is, does)
+pub does_of_a_kind : (n p : ℕ) (command : Option Kind → Command Kind) (old new : Option Space) (reports : Result Reply Status → Type 0) (kind : Kind) → n ≡ type_of_kind kind
+    → Does p (command (Some kind)) old new reports → DoesOfAnyType n p command old new reports
+does_of_a_kind zero p command old new reports kind is does = absurd (omega (arith, is))
+does_of_a_kind (suc n) p command old new reports kind is does = inl (kind, is, does)
 
-pub does_of_none : (n p : ℕ) (command : Option Kind → Command Kind) (old new : Option Space) (Tells : Result Reply Status → Type 0) → n ≢ 0 → ((kind : Kind) → n ≡ type_of_kind kind → ⊥)
-    → new ≡ old → Tells (Err InvalidParameter) → DoesOfAnyType n p command old new Tells
-does_of_none zero p command old new Tells some none same tells = absurd (some refl)
-does_of_none (suc n) p command old new Tells some none same tells = inr (none, same, tells)
+pub does_of_none : (n p : ℕ) (command : Option Kind → Command Kind) (old new : Option Space) (reports : Result Reply Status → Type 0) → n ≢ 0 → ((kind : Kind) → n ≡ type_of_kind kind → ⊥)
+    → new ≡ old → reports (Err InvalidParameter) → DoesOfAnyType n p command old new reports
+does_of_none zero p command old new reports some none same report = absurd (some refl)
+does_of_none (suc n) p command old new reports some none same report = inr (none, same, report)

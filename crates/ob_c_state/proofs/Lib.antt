@@ -5,5 +5,9 @@ pub mod PendingOpens
 pub mod OneParse
 pub mod Rests
 pub mod Phases
-pub mod ToldLemmas
+pub mod ReportsLemmas
 pub mod Rising
+pub mod HandleValues
+pub mod Inherits
+pub mod Flags
+pub mod FlagSteps

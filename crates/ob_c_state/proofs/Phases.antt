@@ -35,8 +35,8 @@ module _ (s : Space) (n : ℕ) (t : Space) where
     module _ (o : ℕ) (found : Some o ≡ option_map (λ x. x.object) (pending_of s n)) where
       -- it was resumed, to its reply
       pub ends_in_reply : (begun : Begun) (reply : Reply) → begun ≡ Replied reply → (parse : ParseRun) × HasRun parse × Step host s (Resume n parse) (answer_in begun) t → EndsPending n was (Ok reply) t
-      ends_in_reply begun reply told (parse, ran, made) =
-          let step : Step host s (Resume n parse) (Done reply) t = subst (λ (b : Begun). Step host s (Resume n parse) (answer_in b) t) told made in
+      ends_in_reply begun reply reported (parse, ran, made) =
+          let step : Step host s (Resume n parse) (Done reply) t = subst (λ (b : Begun). Step host s (Resume n parse) (answer_in b) t) reported made in
           subst (λ (w : Space). EndsPending n w (Ok reply) t) is (where_there (pending_of s n) _ _ o found (parse, ran, step))
 
       -- or it was out of memory

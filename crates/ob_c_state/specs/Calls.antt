@@ -100,7 +100,7 @@ Calls p command (Some s) ended new = (t : Space) × (new ≡ Some t) × Ends p c
 
 -- a call does this command, and makes such a report of how it ends
 abbrev pub Does : ℕ → Command Kind → (old new : Option Space) → (Result Reply Status → Type 0) → Type 0
-Does p command old new Tells = (ended : Result Reply Status) × Calls p command old ended new × Tells ended
+Does p command old new reports = (ended : Result Reply Status) × Calls p command old ended new × reports ended
 
 -- a command that was to be made of bytes of the caller's: it is run, or no memory was left for a copy of these
 abbrev pub EndsMade : {E : Type 0} → ℕ → Result (Command Kind) E → Space → Result Reply Status → Space → Type 0
@@ -113,14 +113,14 @@ CallsMade p made (Some s) ended new = (t : Space) × (new ≡ Some t) × EndsMad
 
 -- A call does the command of the kind that has this number; if none has it, the call is refused and nothing changes.
 abbrev pub DoesOfType : ℕ → ℕ → (Kind → Command Kind) → (old new : Option Space) → (Result Reply Status → Type 0) → Type 0
-DoesOfType type p command old new Tells =
-    ((kind : Kind) × (type ≡ type_of_kind kind) × Does p (command kind) old new Tells)
-    ⊎ (((kind : Kind) → type ≡ type_of_kind kind → ⊥) × (new ≡ old) × Tells (Err InvalidParameter))
+DoesOfType type p command old new reports =
+    ((kind : Kind) × (type ≡ type_of_kind kind) × Does p (command kind) old new reports)
+    ⊎ (((kind : Kind) → type ≡ type_of_kind kind → ⊥) × (new ≡ old) × reports (Err InvalidParameter))
 
 -- the same, where the number 0 is any type
 abbrev pub DoesOfAnyType : ℕ → ℕ → (Option Kind → Command Kind) → (old new : Option Space) → (Result Reply Status → Type 0) → Type 0
-DoesOfAnyType zero p command old new Tells = Does p (command None) old new Tells
-DoesOfAnyType (suc n) p command old new Tells = DoesOfType (suc n) p (λ kind. command (Some kind)) old new Tells
+DoesOfAnyType zero p command old new reports = Does p (command None) old new reports
+DoesOfAnyType (suc n) p command old new reports = DoesOfType (suc n) p (λ kind. command (Some kind)) old new reports
 
 -- a closed namespace is opened in a state, or the call is out of memory and it stays closed
 abbrev pub OpensIn : Space → (new : Option Space) → ℕ → Type 0

@@ -2,4 +2,5 @@ pub mod Machine
 pub mod Caller
 pub mod Calls
 pub mod Pending
-pub mod Told
+pub mod Reports
+pub mod Inherit

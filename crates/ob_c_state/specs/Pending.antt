@@ -50,10 +50,10 @@ Cancels ticket s status t =
 
 -- the open of a ticket is resumed in a namespace that may be closed, and such a report is made of how it ended
 abbrev pub EndsOpen : ℕ → (old new : Option Space) → (Result Reply Status → Type 0) → Type 0
-EndsOpen ticket None new Tells = (new ≡ None) × Tells (Err InvalidParameter)
-EndsOpen ticket (Some s) new Tells = (ended : Result Reply Status) × (t : Space) × (new ≡ Some t) × EndsPending ticket s ended t × Tells ended
+EndsOpen ticket None new reports = (new ≡ None) × reports (Err InvalidParameter)
+EndsOpen ticket (Some s) new reports = (ended : Result Reply Status) × (t : Space) × (new ≡ Some t) × EndsPending ticket s ended t × reports ended
 
 -- the open of a ticket is abandoned in a namespace that may be closed, with such a report
 abbrev pub CancelsOpen : ℕ → (old new : Option Space) → (Status → Type 0) → Type 0
-CancelsOpen ticket None new Tells = (new ≡ None) × Tells InvalidParameter
-CancelsOpen ticket (Some s) new Tells = (status : Status) × (t : Space) × (new ≡ Some t) × Cancels ticket s status t × Tells status
+CancelsOpen ticket None new reports = (new ≡ None) × reports InvalidParameter
+CancelsOpen ticket (Some s) new reports = (status : Status) × (t : Space) × (new ≡ Some t) × Cancels ticket s status t × reports status

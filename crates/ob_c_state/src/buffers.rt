@@ -1,7 +1,7 @@
 //! The writes of calls to a caller's buffers.
 
 ghost use Rattle.std.specs.Prelude.{◌≡◌, if◌then◌else◌, length, nat_le};
-ghost use Rattle.ob_c_state.specs.Told.{Fills, TellsText, TellsEntry, TellsFirst};
+ghost use Rattle.ob_c_state.specs.Reports.{Fills, ReportsText, ReportsEntry, ReportsFirst};
 ghost use Rattle.ob_base.specs.Status.{code_of};
 
 use ob_base::Status;
@@ -31,8 +31,8 @@ pub fn fill_nothing(status: Status, length: &mut usize) -> u32
 }
 
 /// Reports the text that a call gives.
-pub fn tell_text(ended: &Result<Reply, Status>, buffer: &mut [u8], length: &mut usize) -> u32
-    ensures { TellsText result buffer.old buffer.new length.new ended.now }
+pub fn report_text(ended: &Result<Reply, Status>, buffer: &mut [u8], length: &mut usize) -> u32
+    ensures { ReportsText result buffer.old buffer.new length.new ended.now }
 {
     match ended {
         Ok(reply) => match &reply.given {
@@ -44,14 +44,14 @@ pub fn tell_text(ended: &Result<Reply, Status>, buffer: &mut [u8], length: &mut 
 }
 
 /// Reports the first entry of the page that a call gives.
-pub fn tell_entry(
+pub fn report_entry(
     ended: &Result<Reply, Status>,
     context: &mut u64,
     buffer: &mut [u8],
     length: &mut usize,
     number: &mut u32,
 ) -> u32
-    ensures { TellsEntry result context.old context.new buffer.old buffer.new length.new
+    ensures { ReportsEntry result context.old context.new buffer.old buffer.new length.new
         number.new ended.now }
 {
     *number = 0;
@@ -60,7 +60,7 @@ pub fn tell_entry(
             Given::Page {
                 entries,
                 context: behind,
-            } => tell_first(
+            } => report_first(
                 reply.status,
                 entries,
                 *behind,
@@ -76,7 +76,7 @@ pub fn tell_entry(
 }
 
 // Reports the first of these entries, after which this context is.
-fn tell_first(
+fn report_first(
     status: Status,
     entries: &Entries,
     behind: u64,
@@ -85,7 +85,7 @@ fn tell_first(
     length: &mut usize,
     number: &mut u32,
 ) -> u32
-    ensures { TellsFirst result status entries.now behind context.old context.new buffer.old
+    ensures { ReportsFirst result status entries.now behind context.old context.new buffer.old
         buffer.new length.new number.new }
 {
     let Some(entry) = entries.as_slice().first() else {

@@ -1,7 +1,7 @@
 //! Reports of how calls of commands end.
 
 ghost use Rattle.std.specs.Prelude.{◌≡◌};
-ghost use Rattle.ob_c_state.specs.Told.{TellsHandle, status_in, handle_in, process_in};
+ghost use Rattle.ob_c_state.specs.Reports.{ReportsHandle, status_in, handle_in, process_in};
 
 use ob_base::Status;
 use ob_core::{Given, Reply};
@@ -17,8 +17,8 @@ pub fn status_in(ended: &Result<Reply, Status>) -> u32
 }
 
 /// Reports the handle that a call gives, 0 if it gives none; returns the number of the status.
-pub fn tell_handle(ended: &Result<Reply, Status>, handle: &mut u32) -> u32
-    ensures { TellsHandle result handle.new ended.now }
+pub fn report_handle(ended: &Result<Reply, Status>, handle: &mut u32) -> u32
+    ensures { ReportsHandle result handle.new ended.now }
 {
     *handle = handle_in(ended);
     status_in(ended)

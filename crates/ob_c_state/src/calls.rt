@@ -14,9 +14,9 @@ pub fn call(
     ns: &mut Ntns,
     alloc: Global,
     process: u32,
-    made: Result<Command<Kind>, AllocError>,
+    made: &Result<Command<Kind>, AllocError>,
 ) -> Result<Reply, Status>
-    ensures { CallsMade process made ns.old.core result ns.new.core }
+    ensures { CallsMade process made.now ns.old.core result ns.new.core }
 {
     let Some(mut core) = ns.take(alloc) else {
         return Err(Status::InvalidParameter);

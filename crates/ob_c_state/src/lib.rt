@@ -1,7 +1,7 @@
 //! The namespace that a caller in C holds, and commands that are run in it.
 //!
 //! The caller's struct is [`Ntns`]; if it is open, it owns a [`HostCore`], the namespace over the set of the caller's own
-//! objects. [`call`] runs a command in it, and [`tell_handle`] and its like report how it ended. The exports for C are those
+//! objects. [`call`] runs a command in it, and [`report_handle`] and its like report how it ended. The exports for C are those
 //! of the crate above.
 #![tactic(auto)]
 
@@ -11,11 +11,12 @@ mod caller;
 mod calls;
 mod commands;
 mod copies;
+mod inherit;
 mod machine;
 mod parts;
 
-pub use buffers::{fill, fill_nothing, tell_entry, tell_text};
-pub use called::{process_in, status_in, tell_handle};
+pub use buffers::{fill, fill_nothing, report_entry, report_text};
+pub use called::{process_in, report_handle, status_in};
 pub use caller::Ntns;
 pub use calls::call;
 pub use commands::{

@@ -5,10 +5,14 @@ ghost use Rattle.std.specs.Option.{option_map};
 ghost use Rattle.ob_core.specs.Referent.{body_lent, referent_at};
 ghost use Rattle.ob_types.specs.Unnoticed.{with_change};
 ghost use Rattle.ob_host.specs.Deletions.{behind_next, next_deletion, unused};
+ghost use Rattle.ob_core.specs.Reached.{IsJustGiven};
+ghost use Rattle.ob_model.specs.Choice.{revalued};
+ghost use Rattle.ob_model.specs.Grants.{IsFreeValue};
 ghost use Rattle.ob_model.specs.Opening.{opening};
 ghost use Rattle.ob_model.specs.PendingOpens.{pending_of};
 ghost use Rattle.ob_runner.specs.Begun.{IfWaits};
 ghost use Rattle.ob_c_state.specs.Calls.{Ends, EndsMade};
+ghost use Rattle.ob_c_state.specs.Machine.{host};
 ghost use Rattle.ob_c_state.specs.Pending.{BeginsMade, BeginsOpen, Cancels, EndsPending};
 
 use crate::copies::copied_waits;
@@ -81,13 +85,13 @@ impl HostCore {
         &mut self,
         alloc: Global,
         process: u32,
-        made: Result<Command<Kind>, AllocError>,
+        made: &Result<Command<Kind>, AllocError>,
     ) -> Result<Reply, Status>
-        ensures { EndsMade process made self.old result self.new }
+        ensures { EndsMade process made.now self.old result self.new }
     {
         match made {
             Err(_) => Err(Status::NoMemory),
-            Ok(command) => self.run_lent(alloc, process, &command),
+            Ok(command) => self.run_lent(alloc, process, command),
         }
     }
 
@@ -115,15 +119,15 @@ impl HostCore {
     pub fn begin(
         &mut self,
         process: u32,
-        made: Result<Command<Kind>, AllocError>,
+        made: &Result<Command<Kind>, AllocError>,
     ) -> Result<Begun, Status>
-        ensures begun { BeginsMade process made self.old result self.new }
+        ensures begun { BeginsMade process made.now self.old result self.new }
         ensures pending { IfOk result (λ begun. IfWaits begun (λ ticket.
             IsSome (pending_of self.new ticket))) }
     {
         match made {
             Err(_) => Err(Status::NoMemory),
-            Ok(command) => self.begin_lent(process, &command),
+            Ok(command) => self.begin_lent(process, command),
         }
     }
 
@@ -201,6 +205,30 @@ impl HostCore {
         self.core.referent(Proc(process), Handle(handle))
     }
 
+    /// The namespace in which the handle that the last step gave to this process, under the value `from`, has the value `to`
+    /// instead, which must be free; nothing else differs. The only error is out of memory, and then the namespace is dropped.
+    ///
+    /// Source: handles are values of the system's choice (Windows Driver Kit); that a choice may be changed is this profile.
+    pub(crate) fn revalue(
+        self,
+        process: u32,
+        from: Handle,
+        to: Handle,
+    ) -> Result<HostCore, AllocError>
+        requires given { IsJustGiven host self process from }
+        requires free { IsFreeValue self process to }
+        ensures { IfOk result (λ core. core ≡ revalued to self) }
+    {
+        let HostCore { core, waits } = self;
+        match core.revalue(Proc(process), from, to) {
+            Ok(core) => Ok(HostCore { core, waits }),
+            Err(_) => {
+                waits.let_go();
+                Err(AllocError)
+            }
+        }
+    }
+
     /// The core, to be read.
     pub fn read(&self) -> &Core<HostSet, SlabTable>
         ensures { result.now ≡ self.now }
@@ -211,7 +239,7 @@ impl HostCore {
     /// Takes the first deletion that wasn't taken yet; `None` if none is left, and then nothing changes. Takes no
     /// memory. (this profile)
     pub fn take_next(&mut self) -> Option<HostDeletion>
-        ensures told { result ≡ next_deletion self.old.set }
+        ensures reported { result ≡ next_deletion self.old.set }
         ensures taken { IfSome result (λ _. self.new ≡ with_change behind_next self.old) }
         ensures none { IfNone result (self.new ≡ self.old) }
     {

@@ -142,6 +142,7 @@ unsafe extern "C" {
     pub fn ntns_cancel_open(ns: *mut ntns, ticket: u64) -> ntns_status;
     pub fn ntns_close_handle(ns: *mut ntns, process: u32, handle: u32) -> ntns_status;
     pub fn ntns_duplicate(ns: *mut ntns, process: u32, handle: u32, to: u32, inherit: bool, copy: *mut u32) -> ntns_status;
+    pub fn ntns_set_inherit(ns: *mut ntns, process: u32, handle: u32, inherit: bool) -> ntns_status;
     pub fn ntns_make_temporary(ns: *mut ntns, process: u32, handle: u32) -> ntns_status;
     pub fn ntns_make_permanent(ns: *mut ntns, process: u32, handle: u32) -> ntns_status;
     pub fn ntns_query_link(ns: *mut ntns, process: u32, handle: u32, buffer: *mut c_char, capacity: usize, length: *mut usize) -> ntns_status;

@@ -363,6 +363,11 @@ impl<'a> Handle<'a> {
         Ok(to.adopt(copy))
     }
 
+    /// NtSetInformationObject with ObjectHandleFlagInformation: whether children inherit it. It keeps its value; if the flag changes, it comes last in the order of opening.
+    pub fn set_inherit(&self, inherit: bool) -> Result<(), Status> {
+        self.call(|space, process, value| unsafe { raw::ntns_set_inherit(space, process, value, inherit) })
+    }
+
     /// NtMakeTemporaryObject: the object loses its name with its last handle.
     pub fn make_temporary(&self) -> Result<(), Status> {
         self.make(raw::ntns_make_temporary)

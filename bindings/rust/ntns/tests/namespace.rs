@@ -108,6 +108,24 @@ fn a_child_inherits_and_a_device_map_comes_first() -> Result<(), Status> {
 }
 
 #[test]
+fn an_inherit_flag_is_set() -> Result<(), Status> {
+    let namespace = Namespace::open()?;
+    let system = namespace.process(1);
+    let event = system.object(Type::EVENT, 3).create_unnamed()?;
+    let mutant = system.object(Type::MUTANT, 4).attributes(Attribute::EXCLUSIVE).create_unnamed()?;
+    event.set_inherit(true)?;
+    assert!(event.attributes()?.inherit);
+    assert_eq!(system.handles().map(|opened| opened.value).collect::<Vec<_>>(), [mutant.value(), event.value()]);
+    let child = system.new_process(true)?;
+    let inherited = child.adopt(event.value());
+    assert_eq!(inherited.query()?.user_data, 3);
+    inherited.set_inherit(false)?;
+    assert_eq!(child.new_process(true)?.handles().count(), 0);
+    assert_eq!(mutant.set_inherit(true).unwrap_err(), Status::INVALID_PARAMETER);
+    Ok(())
+}
+
+#[test]
 fn handles_are_listed_in_order_of_opening() -> Result<(), Status> {
     let namespace = Namespace::open()?;
     let system = namespace.process(1);

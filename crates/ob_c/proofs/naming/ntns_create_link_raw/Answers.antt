@@ -2,4 +2,4 @@ use Rattle.ob_c_state.proofs.CallsLemmas.{does_made}
 use Rattle.ob_c.proofs.naming.ntns_create_link_raw.Goals as goal
 
 pub returns : goal.returns
-returns c = does_made _ _ _ tt c.create_link-made.ensures _ _ c.call.result _ c.call.ensures c.tell_handle.ensures
+returns c = does_made _ _ _ tt c.create_link-made.ensures _ _ c.call.result _ c.call.ensures c.report_handle.ensures

@@ -4,5 +4,5 @@ use Rattle.ob_c.proofs.naming.ntns_create_object_raw.Goals as goal
 
 pub returns : goal.returns
 returns c =
-    let does = does_made _ _ _ tt c.create_object-made.ensures _ _ c.call.result _ c.call.ensures c.tell_handle.ensures in
+    let does = does_made _ _ _ tt c.create_object-made.ensures _ _ c.call.result _ c.call.ensures c.report_handle.ensures in
     inl (c.in-Some.kind, c.in-Some.ensures.found, does)

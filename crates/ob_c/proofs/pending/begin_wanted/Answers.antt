@@ -11,4 +11,4 @@ pub returns : goal.returns
 returns c =
     let command : Command Kind = OpenObject (root_of c.args.root) c.args.name.now c.args.attributes c.args.want in
     begins_open c.args.process command _ _ _ _ _ _ _ c.begin-begun.result _ _ _ _ _ _ c.in-Some.ensures.taken c.put.ensures c.deref_mut.ensures.value
-    (begins_made c.args.process _ command tt c.open_object-made.ensures _ _ c.begin-begun.result c.begin-begun.ensures.begun) c.deref_mut-2.ensures.value c.tell_begun-status.ensures
+    (begins_made c.args.process _ command tt c.open_object-made.ensures _ _ c.begin-begun.result c.begin-begun.ensures.begun) c.deref_mut-2.ensures.value c.report_begun-status.ensures

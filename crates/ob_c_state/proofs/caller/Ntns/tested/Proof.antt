@@ -33,7 +33,7 @@ use denote.Triple.Table.{entered}
 use denote.Triple.Walked.{says, Stays, stay_dropped, walk_of, ends_at, Goes-dropped, walk_Meets}
 use Rattle.ob_c_state.specs.declared.caller.Ntns.{Ntns}
 use Rattle.ob_c_state.specs.contracts.caller.Ntns as Caller
-use Rattle.ob_c_state.proofs.CallerSteps.{FromCaller, caller_word, pointer_typed, any_typed, tested_typed, flag_tells, caller_out, caller_in}
+use Rattle.ob_c_state.proofs.CallerSteps.{FromCaller, caller_word, pointer_typed, any_typed, tested_typed, flag_says, caller_out, caller_in}
 use Rattle.ob_c_state.specs.contracts.caller.Ntns.tested as F
 use Rattle.ob_c_state.specs.contracts.caller.Ntns.tested.Key.{name as #self}
 use Rattle.ob_c_state.proofs.caller.Ntns.tested.Statement as stated
@@ -68,7 +68,7 @@ module _ {M : Type 1} {𝓤 : Ura M} (𝓛 : Logic 𝓤) (at_mem : Memory → SP
       sets ! (bin ! (get ! refl) (lit ! tt) tt) refl (tt, tt) $
       sets ! (agg ! (and_then ! (get ! refl) (and_then ! (get ! refl) (and_then ! (get ! refl) (no_more !))))) refl wt $
       sets ! (agg ! (and_then ! (get ! refl) (and_then ! (get ! refl) (no_more !)))) refl (tested_typed 𝓛 hv d.pointer d.flag t low fa) $ returns ! (look_at ! 0 refl) $ free_all ! refl $
-      suffices ! _ (ends_at 𝓛 F.ended stayed (F.clauses 𝓛 at_mem run) z tw made (tt, tt) (tt, tt)) $ says ! (flag_tells d.core d.flag ef, refl) $
+      suffices ! _ (ends_at 𝓛 F.ended stayed (F.clauses 𝓛 at_mem run) z tw made (tt, tt) (tt, tt)) $ says ! (flag_says d.core d.flag ef, refl) $
       nothing ! $ nothing ! $ fjoin ! $ join ! $ nothing ! $ join ! $ done !))))
 
 pub tested_spec : {M : Type 1} → stated.statement M

@@ -1,6 +1,6 @@
 -- The object at which an open is pending is there.
 use Rattle.ob_c.proofs.PendingLemmas.{no_body}
-use Rattle.ob_c.proofs.pending.pending_told.Goals as goal
+use Rattle.ob_c.proofs.pending.pending_reported.Goals as goal
 
 pub unreachable-requires-in_default-object : goal.unreachable-requires-in_default-object
 unreachable-requires-in_default-object c =
