@@ -74,7 +74,7 @@ pub(crate) fn outcome_of<
     requires book { opened.seen.book ≡ J.book }
     requires named { IsNamed device_procedures J.opening J.leads }
 {
-    let mut participants: Participants<'_, R, W, L, J> = open(
+    let participants: Participants<'_, R, W, L, J> = open(
         rt,
         wait,
         alloc,
@@ -82,9 +82,9 @@ pub(crate) fn outcome_of<
         opened,
         scene.viewers(),
     )?;
-    play(
-        scene,
-        &mut participants.writer,
-        participants.viewers.as_mut_slice(),
-    )
+    let Participants {
+        mut writer,
+        mut viewers,
+    } = participants;
+    play(scene, &mut writer, viewers.as_mut_slice())
 }
