@@ -90,7 +90,7 @@ fn sees_told<J: Naming>(viewer: &mut Viewer<J>, published: &Published<J>) -> boo
     }
 }
 
-/// Whether each viewer sees no fewer publications than these when it is told of them.
+/// Whether each viewer sees all of these publications once they are handed to it.
 fn all_see<J: Naming>(viewers: &mut [Viewer<J>], published: &Published<J>) -> bool {
     let mut right = true;
     for viewer in viewers.iter_mut() {

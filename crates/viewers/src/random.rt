@@ -16,7 +16,7 @@ const STEPS: u32 = 2_000;
 /// Of so many steps one is a publish, on average.
 const TURNS: u32 = 16;
 
-/// The seed of the random numbers, and the shifts by which each is made of the one before. (George Marsaglia, Xorshift RNGs)
+/// The first of the random numbers, which is not 0. Each next one is made by three shifts, of so many bits: to the left, to the right, and to the left again.
 const SEED: u32 = 2_463_534_242;
 
 const FIRST_LEFT: u32 = 13;
@@ -32,7 +32,7 @@ struct Names {
     entries: u64,
 }
 
-/// The next of a sequence of random numbers: Marsaglia's generator xorshift of 32 bits.
+/// The random number after this one: after each shift the number and the shifted one are joined by exclusive or.
 fn next(seed: u32) -> u32 {
     let mut seed = seed;
     seed ^= seed << FIRST_LEFT;

@@ -1,4 +1,4 @@
--- What is found along what is left, from the directory that was reached, is found along the whole path.
+-- The object along the rest of the path, from the directory that was reached, is the object along the whole path.
 use Rattle.std.proofs.Common.{ℕ, Option, length}
 use Rattle.ob_model.specs.State.{root_id}
 use Rattle.ob_view.specs.Viewed.{IsWalked}
