@@ -1,4 +1,4 @@
--- What a directory holds stays so, as an entry comes, is taken back, and goes.
+-- The invariant of a directory stays when an entry is inserted, taken back, and removed.
 use Rattle.std.proofs.Common.{◌≡◌, ◌≢◌, ◌∙◌, ℕ, ◌-◌, ◌<◌, Bool, true, false, cond, not, ◌==◌, List, [], ◌∷◌, ◌++◌, filter, find, All, arith, length, get_or, None, Some, refl, ap, sym, subst}
 use Rattle.std.specs.Result.{is_err, OnErr, OnOk}
 use Rattle.std.specs.Set.{remove_key}

@@ -1,4 +1,4 @@
--- What the laws of a directory rest on.
+-- Lemmas for the laws of a directory.
 use Rattle.std.proofs.Common.{◌≡◌, ◌≢◌, ◌∙◌, ℕ, Bool, true, false, cond, List, [], ◌∷◌, filter, map, Option, None, Some, option_map, All, refl, ap, sym, nat_le, ◌==◌}
 use Rattle.std.proofs.lemmas.List.Elements.{All-nil, All-cons, All-head, All-tail}
 use Rattle.std.specs.Option.{is_some}

@@ -1,4 +1,4 @@
--- What is left of a directory when the entry of a stamp is taken away.
+-- A directory without the entry of a stamp.
 use Rattle.std.proofs.Common.{◌≡◌, ℕ, Bool, true, not, List, ◌∷◌, filter, ap, arith, ◌==◌}
 use Rattle.std.proofs.lemmas.Bool.{eqb-true, ne_eqb}
 use Rattle.std.proofs.lemmas.List.Elements.{All-weaker}

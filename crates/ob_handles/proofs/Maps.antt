@@ -1,5 +1,5 @@
--- Two maps that say the same of handles, as functions: by order of opening and by value. What stays true
--- of them when a handle comes or goes.
+-- Two maps that say the same of handles, as functions: by order of opening and by value. The invariant
+-- stays when a handle is added or removed.
 use Rattle.std.proofs.Common.{◌≡◌, ◌∙◌, ℕ, ◌==◌, Bool, true, false, cond, Option, None, Some, option_map, refl, ap, sym, subst, eqb-true, eq-eqb}
 use Rattle.std.proofs.lemmas.Bool.{false≢true}
 use Rattle.ob_model.specs.declared.state.Held.{Held}

@@ -1,4 +1,4 @@
--- What the calls of a close, and of the end of a process, tell of an object.
+-- The calls of a close, and of the end of a process, on an object.
 use Rattle.std.proofs.Common.{◌≡◌, ◌∙◌, ℕ, suc, ◌+◌, ◌==◌, Bool, true, false, cond, not, ◌&&◌, if◌then◌else◌, List, [], ◌∷◌, ◌++◌, length, length-append, get_or, find, filter, All, Some, refl, ap, sym, subst, arith, eqb-true}
 use Rattle.std.specs.Prelude.{count_by, AllPairs}
 use Rattle.std.proofs.lemmas.Bool.{false≢true, and_parts}

@@ -1,4 +1,4 @@
--- What the deletes at the end of a step make of the set's value and the inner values, and that they are told.
+-- The set's value and the inner values after the deletes at the end of a step, which are among its calls.
 use Rattle.std.proofs.Common.{◌≡◌, ◌∙◌, ℕ, suc, ◌<◌, ◌==◌, Bool, true, false, cond, not, ◌&&◌, ◌||◌, if◌then◌else◌, List, [], ◌∷◌, ◌++◌, append-nil, filter, get_or, map, find, All, Option, None, Some, is_some, option_map, refl, ap, sym, subst, arith, eqb-true, eq-eqb}
 use Rattle.std.specs.Prelude.{AllPairs}
 use Rattle.std.specs.Option.{option_map_or, option_and_then}

@@ -1,4 +1,4 @@
--- What the calls of a grant tell of an object, where a create, an open, a duplicate or the end of a pending open may give
+-- The calls of a grant on an object, where a create, an open, a duplicate or the end of a pending open may give
 -- a handle.
 use Rattle.std.proofs.Common.{◌≡◌, ◌≢◌, ◌∙◌, ℕ, ◌<◌, Bool, cond, not, ◌&&◌, List, [], ◌∷◌, All, Option, None, Some, is_some, refl, ap, sym, subst, arith}
 use Rattle.std.proofs.lemmas.List.Elements.{All-weaker}

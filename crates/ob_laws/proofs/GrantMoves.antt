@@ -1,4 +1,4 @@
--- What a create, an open, a duplicate and the end of a pending open make of the set's value and the inner values.
+-- The set's value and the inner values after a create, an open, a duplicate and the end of a pending open.
 use Rattle.std.proofs.Common.{◌≡◌, ◌≢◌, ◌∙◌, ℕ, ◌+◌, ◌==◌, Bool, true, false, not, ◌&&◌, ◌||◌, if◌then◌else◌, List, [], ◌∷◌, ◌++◌, All, Option, None, Some, is_some, option_map, refl, ap, sym, subst, arith}
 use Rattle.std.specs.Option.{option_map_or}
 use Rattle.ob_base.specs.declared.status.Status.{Status}

@@ -1,5 +1,5 @@
--- What a create, an open, a duplicate and the end of a pending open lead to, with what they answer, for which reason an object is
--- opened, and what is made.
+-- The states after a create, an open, a duplicate and the end of a pending open, with their answers, the reason for which an
+-- object is opened, and the object that is made.
 use Rattle.std.proofs.Common.{◌≡◌, ℕ, Bool, true, false, not, List, [], ◌∷◌, Option, None, Some, Result, Ok, Err, MatchOption, MatchResult, refl, sym, subst}
 use Rattle.std.specs.Prelude.{MatchBool}
 use Rattle.std.specs.Option.{option_map, option_or, option_and_then}

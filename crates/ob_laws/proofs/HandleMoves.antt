@@ -1,4 +1,4 @@
--- What a close, a process that begins and one that ends make of the set's value and the inner values.
+-- The set's value and the inner values after a close, after a process begins, and after one ends.
 use Rattle.std.proofs.Common.{◌≡◌, ◌∙◌, ℕ, suc, ◌+◌, ◌==◌, Bool, true, false, cond, not, ◌&&◌, ◌||◌, if◌then◌else◌, List, [], ◌∷◌, ◌++◌, append-nil, append_assoc, length, get_or, filter, map, All, Option, None, Some, refl, ap, sym, subst, arith, eqb-true, eq-eqb}
 use Rattle.std.specs.Prelude.{AllPairs, count_by}
 use Rattle.std.specs.List.{list_any}

@@ -1,4 +1,4 @@
--- What the calls of a process that begins tell of an object: the opens of the handles that it inherits.
+-- The calls on an object as a process begins: the opens of the handles that it inherits.
 use Rattle.std.proofs.Common.{◌≡◌, ◌∙◌, ℕ, ◌+◌, ◌==◌, Bool, true, false, cond, if◌then◌else◌, List, [], ◌∷◌, ◌++◌, append-nil, append_assoc, length, get_or, filter, map, All, Option, None, Some, ◌⊎◌, inl, inr, refl, ap, sym, subst, arith, eq-eqb}
 use Rattle.std.specs.Prelude.{count_by}
 use Rattle.std.specs.Option.{option_map_or}

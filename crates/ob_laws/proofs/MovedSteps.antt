@@ -1,5 +1,5 @@
--- What a step makes of the set's value and the inner values: the opens and closes before it settles, and its deletes; and what
--- a grant and a new object make.
+-- The set's value and the inner values after a step: after the opens and closes before it settles, and after its deletes; and
+-- after a grant and a new object.
 use Rattle.std.proofs.Common.{◌≡◌, ◌∙◌, ℕ, ◌==◌, Bool, true, false, cond, not, ◌&&◌, ◌||◌, if◌then◌else◌, List, [], ◌∷◌, ◌++◌, find, Option, None, Some, is_some, option_map, refl, ap, sym, subst, arith, eqb-true, eq-eqb}
 use Rattle.std.specs.List.{list_any}
 use Rattle.std.specs.Option.{option_map_or, option_and_then, option_or}

@@ -1,4 +1,4 @@
--- What a recorder's list has after a run: the calls that are made, one after another, each under its object's serial.
+-- The list of a recorder after a run: the calls that are made, one after another, each under its object's serial.
 use Rattle.std.proofs.Common.{◌≡◌, ◌≢◌, ◌∙◌, ℕ, ◌+◌, ◌-◌, ◌^◌, min, ◌==◌, Bool, true, false, ◌&&◌, if◌then◌else◌, List, [], ◌∷◌, length, take, Option, None, Some, is_some, MatchOption, refl, ap, sym, subst, arith, eqb-true, eq-eqb}
 use Rattle.std.specs.Option.{option_map_or, option_and_then, option_or}
 use Rattle.std.proofs.lemmas.Bool.{false≢true, ne_eqb}

@@ -1,4 +1,4 @@
--- What the calls of a step tell of an object, for each command and for each end of a pending open.
+-- The calls of a step on an object, for each command and for each end of a pending open.
 use Rattle.std.proofs.Common.{◌≡◌, ◌≢◌, ◌∙◌, ℕ, ◌<◌, ◌==◌, Bool, true, false, cond, not, ◌&&◌, ◌||◌, nat_lt, if◌then◌else◌, List, [], ◌∷◌, ◌++◌, append-nil, filter, map, get_or, Option, None, Some, is_some, MatchOption, refl, ap, sym, subst, arith, eqb-true}
 use Rattle.std.specs.Option.{option_and_then, option_map_or}
 use Rattle.std.proofs.lemmas.Bool.{false≢true, ne_eqb, and_parts}

@@ -1,4 +1,4 @@
--- What each step makes of the set's value and the inner values, by the calls that are told of it.
+-- The set's value and the inner values after each step, by its calls.
 use Rattle.std.proofs.Common.{◌≡◌, ◌≢◌, ◌∙◌, ℕ, ◌+◌, ◌==◌, Bool, true, false, not, ◌&&◌, nat_lt, if◌then◌else◌, List, [], ◌∷◌, ◌++◌, All, Option, None, Some, is_some, option_map, MatchOption, refl, ap, sym, subst, arith, eqb-true}
 use Rattle.std.specs.Option.{option_and_then, option_map_or}
 use Rattle.std.proofs.lemmas.Bool.Decides.{nat_tests}

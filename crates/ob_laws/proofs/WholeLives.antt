@@ -1,4 +1,4 @@
--- What holds of the calls on an object in a whole run, and of exclusive objects behind each of its steps.
+-- The calls on an object in a whole run, and exclusive objects after each of its steps.
 use Rattle.std.proofs.Common.{◌≡◌, ◌∙◌, ℕ, ◌+◌, Bool, true, false, cond, List, [], ◌∷◌, ◌++◌, append-nil, append_assoc, length, length-append, inl, refl, sym, subst, arith}
 use Rattle.ob_model.specs.State.{State, handle_count_in}
 use Rattle.ob_model.specs.Opening.{opening}

@@ -1,4 +1,4 @@
--- What is under the lock keeps what holds of it, step for step.
+-- The state under the lock keeps its invariant, step for step.
 use Rattle.std.proofs.Common.{◌≡◌, ◌∙◌, ℕ, ◌+◌, ◌*◌, ◌^◌, ◌-◌, ◌<◌, ◌≤◌, ◌==◌, not, List, [], ◌∷◌, ◌++◌, length, filter, Option, None, Some, MatchOption, Result, Ok, Err, OnOk, OnErr, inr, refl, ap, sym, subst, arith, append_assoc, append-nil, length-append}
 use Rattle.std.specs.Option.{option_map_or}
 use Rattle.ob_model.specs.declared.reply.Answer.{Answer}

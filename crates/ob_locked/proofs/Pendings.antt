@@ -1,4 +1,4 @@
--- What a step leaves of the opens that wait, and what it answers.
+-- The pending opens after a step, and its answer.
 use Rattle.std.proofs.Common.{◌≡◌, ◌∙◌, ℕ, ◌+◌, ◌<◌, ◌≤◌, ◌==◌, Bool, true, false, ◌&&◌, not, List, [], ◌∷◌, ◌++◌, length, map, filter, All, Option, None, Some, MatchOption, refl, ap, sym, subst, get_or, arith}
 use Rattle.std.specs.Prelude.{MatchBool, if◌then◌else◌}
 use Rattle.std.specs.Option.{option_map_or}

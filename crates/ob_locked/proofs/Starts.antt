@@ -1,4 +1,4 @@
--- What is known of a start of the core, by how it ended.
+-- The facts about a start of the core, by how it ended.
 use Rattle.std.proofs.Common.{◌≡◌, ℕ, ◌≤◌, true, length, Result, Ok, Err, OnErr, subst, arith}
 use Rattle.ob_model.specs.declared.command.Command.{Command}
 use Rattle.ob_model.specs.declared.reply.Event.TheVariants.{Start, Resume}

@@ -1,4 +1,4 @@
--- What a walk has left, walked from where it has led, is walked from where it began.
+-- The rest of a walk, walked from the place it has reached, ends where the walk from its beginning does.
 use Rattle.std.proofs.Common.{◌≡◌, ◌≢◌, ◌⊎◌, ℕ, Bool, false, ◌&&◌, List, [], ◌∷◌, ◌++◌, None, inl, inr, refl, ap, sym, ◌∙◌, subst, append_assoc}
 use Rattle.std.proofs.lemmas.List.Elements.{All-append}
 use Rattle.std.specs.Str.{bytes_eq}

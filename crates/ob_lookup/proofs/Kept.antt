@@ -1,4 +1,4 @@
--- What a cache keeps leads where it says: by a walk that it leads on, and by one that came there.
+-- A prefix in a cache leads to its directory: by a walk that begins with it, and by one that came there.
 use Rattle.std.proofs.Common.{◌≡◌, ◌∙◌, ℕ, suc, ◌==◌, Bool, true, false, List, [], ◌∷◌, ◌++◌, length, filter, not, ◌||◌, ◌&&◌, Option, None, Some, IsSome, All, Result, Ok, Err, OnOk, OnErr, if◌then◌else◌, length-append, inl, inr, refl, ap, sym, subst, arith, eqb-true}
 use Rattle.std.specs.Option.{option_map, option_and_then, option_map_or, option_or}
 use Rattle.lru.specs.LruCache.{lru_cache}

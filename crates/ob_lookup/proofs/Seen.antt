@@ -1,4 +1,4 @@
--- What a state that shows a store has: bodies, what is found in a directory, and that this is there.
+-- A state that shows a store: its bodies, the entry that a search of a directory finds, and that this object exists.
 use Rattle.std.proofs.Common.{◌≡◌, ◌∙◌, ℕ, ◌==◌, Bool, true, false, List, [], Option, None, Some, MatchOption, option_map, if◌then◌else◌, filter, All, IsSome, refl, ap, sym, subst}
 use Rattle.std.proofs.lemmas.Bool.{false≢true}
 use Rattle.std.proofs.lemmas.List.Elements.{All-filter, All-weaker}

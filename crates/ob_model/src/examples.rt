@@ -174,9 +174,10 @@ pub fn paths_are_told()
 ///
 /// - `parse_runs_end`: A parse run ends with what is made once its rest is used up, in two steps here; with a refusal or a
 ///   text to look up where a step answers so; and with the object itself where there is no rest.
-/// - `made_is_opened`: A resume opens what the parse made, under its ticket. The object that parsed goes, since nothing else holds
-///   it.
-/// - `made_of_another_type_goes`: What the parse made is of another type than was asked for: it goes unopened, before the object that parsed.
+/// - `made_is_opened`: A resume opens the object that the parse made, under its ticket. The object that parsed is deleted, since
+///   nothing else holds it.
+/// - `made_of_another_type_goes`: The parse made an object of another type than was asked for: it is deleted unopened, before the
+///   object that parsed.
 /// - `itself_is_opened`: Where no rest is left the object that parsed is opened, though it has no name, and stays.
 /// - `parse_is_refused`: The resume answers with a refusal of the parse.
 /// - `asker_is_gone`: Where the process that asked is gone a resume says so, and what the parse made goes.

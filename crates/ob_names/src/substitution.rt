@@ -37,7 +37,7 @@ pub fn substitute(alloc: Global, target: &[u8], rest: &[u8]) -> Result<NameBuf, 
     Ok(NameBuf::new(bytes))
 }
 
-// What of the rest follows the target: all, except for the first of two separators that meet.
+// The part of the rest that follows the target: all of it, except the first of two separators that meet.
 fn behind<'a>(target: &[u8], rest: &'a [u8]) -> &'a [u8]
     ensures { target.now ++ result.now ≡ substituted target.now rest.now }
 {

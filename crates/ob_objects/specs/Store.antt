@@ -1,5 +1,5 @@
--- A store of objects, as the list of its entries: each an id and what is stored under it. What holds
--- of every store, and which objects and rows of the abstract state it represents.
+-- A store of objects, as the list of its entries: each an id and what is stored under it. The
+-- invariant of every store, and which objects and rows of the abstract state it represents.
 --
 -- Sources: Windows Internals, Object Manager (object headers and bodies, object directories); the ids
 -- are this profile.

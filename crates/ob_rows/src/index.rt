@@ -106,7 +106,7 @@ fn take_from(stamps: &mut Vec<u64>, stamp: u64) -> bool
     stamps.is_empty()
 }
 
-// Where a stamp stands first among others.
+// The place at which a stamp is first among others.
 fn place_of(stamps: &[u64], stamp: u64) -> Option<usize>
     ensures { result ≡ position (λ s. s == stamp) stamps.now }
 {

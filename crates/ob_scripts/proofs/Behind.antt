@@ -1,4 +1,4 @@
--- What the rest of a script shows, after what was shown so far.
+-- The output of the rest of a script, after the output so far.
 use Rattle.std.proofs.Common.{◌≡◌, ℕ, ◌+◌, List, [], ◌∷◌, ◌++◌, map, Option, Some, None, refl, sym, ap, ◌∙◌, subst, append_assoc, append-nil, inl, inr}
 use Rattle.std.specs.Io.KnownBytes.{Appends}
 use Rattle.ob_model.specs.declared.reply.Answer.{Answer}

@@ -1,5 +1,5 @@
--- What a change that no procedure notices leaves of an open, a close, a delete and what settles, and of the states that
--- a grant, a create, a child and a process's end leave.
+-- A change that no procedure notices: an open, a close, a delete and a settling after it, and the states after a grant, a
+-- create, a child and a process's end.
 use Rattle.std.proofs.Common.{◌≡◌, ◌∙◌, ℕ, ◌+◌, ◌==◌, Bool, true, false, ◌&&◌, not, cond, List, [], ◌∷◌, filter, map, Option, None, Some, refl, ap}
 use Rattle.std.specs.Option.{option_map, option_map_or, option_and_then, option_or, is_some}
 use Rattle.ob_base.specs.Attrs.{has_flag, inherit_flag, permanent_flag, exclusive_flag}

@@ -6,8 +6,8 @@ ghost use Rattle.ob_types.specs.Unnoticed.{ChangesLeaveRuns, ChangesLeaveSteps, 
 use crate::set::TypeSet;
 
 /// A set of types whose owner takes items from its value between the steps of a namespace, one after another, as a
-/// list of what was deleted. What is taken changes what no procedure of the set reads, so that the steps before and
-/// after it are a run as if nothing had been taken. (this profile)
+/// list of what was deleted. No procedure of the set reads what a take changes, so the steps before and after
+/// it are a run as if nothing had been taken. (this profile)
 pub trait Drains: TypeSet {
     /// An item of the list.
     type Item: Drop + Send;

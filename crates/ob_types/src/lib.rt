@@ -1,8 +1,8 @@
 //! The promises of a set of types: the procedures of its types, what each of them gives, and the
 //! laws that make a set lawful.
 //!
-//! A set of types is a value whose type has an `impl` of [`TypeSet`]. What its procedures mean is
-//! one record of functions, of `ob_model`'s `Procedures`, by which each method has its contract.
+//! A set of types is a value whose type has an `impl` of [`TypeSet`]. One record of
+//! functions, of `ob_model`'s `Procedures`, says what its procedures mean, and each method's contract is by it.
 //!
 //! Parses that callers run: taken out of the namespace, and brought back with their ends.
 //!

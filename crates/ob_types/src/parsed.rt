@@ -79,7 +79,7 @@ impl<T: TypeSet> Parsed<T> {
         ensures rest { result.2 ≡ self.rest }
         ensures outcome { outcome_of (result.3) ≡ self.outcome }
 
-        // What holds of every parse that was run.
+        // The invariant of every parse that was run.
         ensures run { IsRun T.procedures T.idle self.face self.rest self.outcome }
     {
         let Parsed {
@@ -123,7 +123,7 @@ impl<T: TypeSet> Parsed<T> {
     pub fn outcome(&self) -> &Outcome<T::Face, T::Inner>
         ensures outcome { outcome_of result.now ≡ self.now.outcome }
 
-        // What holds of every parse that was run.
+        // The invariant of every parse that was run.
         ensures run { IsRun T.procedures T.idle self.now.face self.now.rest self.now.outcome }
     {
         &self.outcome

@@ -75,7 +75,7 @@ impl<T: TypeSet> Parsing<T> {
     pub fn face(&self) -> &T::Face
         ensures face { result.now ≡ self.now.face }
 
-        // What holds of every parse that is to be run.
+        // The invariant of every parse that is to be run.
         ensures parses { (T.procedures).parses ((T.procedures).kind_of self.now.face) ≡ true }
     {
         &self.face

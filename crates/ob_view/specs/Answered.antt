@@ -1,4 +1,4 @@
--- What a query of a viewer finds.
+-- The row or object that a query of a viewer finds.
 --
 -- Source: this profile.
 use Rattle.std.specs.Prelude.{◌≡◌, ℕ, List, Option}

@@ -14,8 +14,8 @@ use ob_published::{Naming, Of, Published, Sees, Shown};
 use std::marker::Model;
 
 /// A reader of the names of one namespace, as they were after some publication. A contract sees a `Viewer` as the
-/// longest list of publications that it knows of: it was told of them, or saw them. What it sees later begins with
-/// these.
+/// longest list of publications that it knows of: it was told of them, or saw them. It later sees lists that begin
+/// with these.
 ///
 /// A viewer sees a directory's own entries alone: it follows no link, no shadow and no device map.
 #[derive(Drop)]

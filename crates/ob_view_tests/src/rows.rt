@@ -28,7 +28,7 @@ fn is_same(a: u64, b: u64, fold: bool) -> bool {
     a == b || (fold && a < 2 && b < 2)
 }
 
-// What a search of the list finds: the stamp of the first row that matches. The object of a row is half its stamp.
+// The result of a search of the list: the stamp of the first row that matches. The object of a row is half its stamp.
 fn searched(rows: &[Listed], directory: u64, pick: u64, fold: bool) -> Option<u64> {
     for row in rows {
         if row.directory == directory && is_same(row.pick, pick, fold) {
@@ -125,7 +125,7 @@ fn rows_are_found_as_a_search_finds_them(rt: HostRuntime) {
     assert_eq!(rt; plays(rt.alloc(), 400).ok(), Some(true));
 }
 
-// So many stamps are used, but for the first, which is no row's, and this is the last.
+// So many stamps are used, except the first, which is no row's, and this is the last.
 const MANY: u64 = 5_000;
 
 const LAST: u64 = MANY - 1;

@@ -136,7 +136,7 @@ fn sees_shown<J: Naming, R: Wait>(
     Ok(before && number == 3 && after && showing.rows().len() == 1)
 }
 
-// Whether it doesn't see one that is recorded alone, and sees nothing else once it was told of it.
+// Whether it doesn't see one that is recorded alone, and sees nothing else once it knows of it.
 fn waits_for_shown<J: Naming, R: Wait>(
     alloc: Global,
     showing: &mut Showing<J, &R>,
@@ -173,7 +173,7 @@ fn a_viewer_sees_what_is_shown(rt: HostRuntime) {
     assert_eq!(rt; seen.ok(), Some(true));
 }
 
-// Two viewers beside the writer, each in a thread; then one is told of all that was published.
+// Two viewers beside the writer, each in a thread; then one is given all that was published.
 fn watched<J: Naming + Send + Sync, R: Threads + Wait + Sync>(
     rt: &R,
     alloc: Global,

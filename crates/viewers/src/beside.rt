@@ -81,7 +81,7 @@ fn writes_until<R: Wait, W: Wait + Drop, L: Ledger, J: Naming>(
     false
 }
 
-/// Whether a viewer that is told of publications sees no fewer.
+/// Whether a viewer that is given publications sees no fewer.
 fn sees_told<J: Naming>(viewer: &mut Viewer<J>, published: &Published<J>) -> bool {
     viewer.told(published);
     match viewer.look_up(ROOT, b"A", true) {
@@ -115,7 +115,7 @@ fn beside<R: Threads + Wait + Sync, W: Wait + Drop, L: Ledger, J: Naming + Send 
 }
 
 /// Whether two viewers on threads of their own look names up 1,000 times each beside a writer that publishes 100 times, and
-/// always see something, never fewer entries than before, and no fewer than they are told.
+/// always see something, never fewer entries than before, and no fewer than they are given.
 pub(crate) fn sees_beside<
     R: Threads + Wait + Sync,
     W: Wait + Drop,

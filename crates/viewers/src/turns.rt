@@ -7,7 +7,7 @@ use std::sync::Wait;
 use std::sync::ledger::Ledger;
 
 /// Whether two viewers see a directory exactly from the publish after its creation to the publish after its deletion, the
-/// first at once when it is told, the second when it looks.
+/// first at once when it is given them, the second when it looks.
 pub(crate) fn takes_turns<R: Wait, W: Wait + Drop, L: Ledger, J: Naming>(
     writer: &mut Writer<'_, R, W, L, J>,
     viewers: &mut [Viewer<J>],

@@ -93,7 +93,7 @@ impl Model {
         Ok(Answer::Refused(Status::ReparseLimit))
     }
 
-    // What is at the end of a text, or the first link in it that is followed.
+    // The object at the end of a text, or the first link in it that is followed.
     fn end<'a>(&self, live: Live, start: Option<u32>, text: &'a [u8], look: Look) -> Step<'a> {
         let is_view = start.is_none() && text.first() == Some(&VIEW);
         let mut at = match is_view {

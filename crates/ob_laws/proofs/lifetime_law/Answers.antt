@@ -1,4 +1,4 @@
--- What each step's calls tell of an object, one step after another.
+-- Each step's calls on an object, one step after another.
 use Rattle.ob_laws.proofs.WholeLives.{whole_life}
 use Rattle.ob_laws.proofs.lifetime_law.Goals as goal
 

@@ -1,4 +1,4 @@
--- What goes is the first that is equal.
+-- The first one that is equal is removed.
 use Rattle.std.proofs.Common.{◌∙◌, ◌==◌, ℕ, Bool, ap, sym}
 use Rattle.std.specs.List.{position}
 use Rattle.ob_dirs.proofs.Lists.{remove-position, remove_key-none}

@@ -1,4 +1,4 @@
--- What is told of the next entry is the length of its type's name, and what follows is told of the others.
+-- The source reports the next entry by the length of its type's name, and then the others.
 use Rattle.std.proofs.Common.{◌∙◌, ◌+◌, List, ap, map, sym, rules, of_calls, arith, length}
 use Rattle.ob_dirs.specs.Page.{fit_of, shown_entry}
 use Rattle.ob_dirs.specs.declared.entry.DirEntry.{DirEntry}

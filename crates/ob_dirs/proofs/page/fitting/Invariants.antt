@@ -1,4 +1,4 @@
--- What fits from the first entry on fits from the entries that are left, with those before them.
+-- The entries that fit from the first one on are those before, and those that fit of the ones that are left.
 use Rattle.std.proofs.Common.{◌≡◌, ◌+◌, ℕ, List, length, map, false}
 use Rattle.ob_dirs.specs.Page.{TellsLengths, fit_of, shown_entry}
 use Rattle.ob_dirs.proofs.page.fitting.Given as goal

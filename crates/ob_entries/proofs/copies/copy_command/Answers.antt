@@ -1,4 +1,4 @@
--- What has no text is copied as it is.
+-- A command without a text is copied as it is.
 use Rattle.std.proofs.Common.{sym}
 use Rattle.ob_entries.proofs.copies.copy_command.Goals as goal
 

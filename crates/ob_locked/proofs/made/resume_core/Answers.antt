@@ -1,4 +1,4 @@
--- What a resume answers wants no memory, and its open waits no longer.
+-- A resume that answers isn't out of memory, and its open is pending no longer.
 use Rattle.ob_types.specs.Pending.{run_of_end}
 use Rattle.ob_locked.proofs.Starts.{ended_then, plain_then}
 use Rattle.ob_locked.proofs.made.resume_core.Goals as goal

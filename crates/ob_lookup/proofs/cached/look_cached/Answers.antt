@@ -1,4 +1,4 @@
--- What comes of the turns so far ends the lookup of the name. Where memory is wanted, in whichever turn, the first
+-- The outcome of the turns so far ends the lookup of the name. If memory runs out, in whichever turn, the first
 -- turn tells what the name ends with when no reparse is left.
 use Rattle.std.proofs.Common.{subst}
 use Rattle.ob_lookup.specs.declared.start.Beginning.{Beginning}

@@ -1,4 +1,4 @@
--- What the walk has left stops where the whole text does.
+-- The rest of the walk stops where the whole text does.
 use Rattle.ob_lookup.specs.Walk.{stop_of}
 use Rattle.ob_lookup.proofs.Compose.{stop_more}
 use Rattle.ob_lookup.proofs.cached.walk_cached.Goals as goal

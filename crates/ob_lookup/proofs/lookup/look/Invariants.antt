@@ -1,4 +1,4 @@
--- What comes of the turns so far ends the lookup of the name, in each state that shows the store.
+-- The outcome of the turns so far ends the lookup of the name, in each state that shows the store.
 use Rattle.std.proofs.Common.{ℕ, ◌<◌}
 use Rattle.ob_model.specs.State.{State}
 use Rattle.ob_model.specs.Looks as machine

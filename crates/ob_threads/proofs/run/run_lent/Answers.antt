@@ -1,5 +1,5 @@
--- What lends the namespace may be shared with the threads, and the passes come back with what the lines play. What the code calls the
--- lifetime of what is lent plays no part.
+-- The lent namespace may be shared with the threads, and the passes come back as the lines play them. The lifetime of the loan
+-- plays no part.
 use Rattle.std.proofs.Common.{◌≡◌, ◌∙◌, [], All, length, ap, sym, subst}
 use mir.Syntax.{static}
 use denote.Param.{param}

@@ -1,4 +1,4 @@
--- What a step reads of the set's value are its procedures.
+-- A step reads the procedures of the set's value alone.
 use Rattle.ob_types.proofs.UnnoticedRuns.{steps_stay}
 use Rattle.ob_types.proofs.drains.unnoticed_changes_leave_steps.Goals as goal
 

@@ -1,4 +1,4 @@
--- What is given of a page is what is told of it.
+-- The entries of a page are those that its source reports.
 use Rattle.std.proofs.Common.{◌∙◌, List, ap, map, sym, refl}
 use Rattle.ob_dirs.specs.declared.entry.DirEntry.{DirEntry}
 use Rattle.ob_dirs.specs.Page.{fit_of, shown_entry}

@@ -1,4 +1,4 @@
--- What is found under the component's hash is the first entry that is named so, which is the one of least stamp.
+-- The search under the component's hash finds the first entry that is named so, which is the one of least stamp.
 use Rattle.std.proofs.Common.{◌∙◌, ap, rules, subst}
 use Rattle.ob_dirs.specs.Dir.{IsDir}
 use Rattle.ob_dirs.specs.Hashes.{name_hash}
