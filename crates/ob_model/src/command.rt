@@ -1,10 +1,14 @@
 //! The commands of processes.
 
+ghost use Rattle.std.specs.Prelude.{◌≡◌, IfOk};
+ghost use Rattle.ob_model.specs.declared.command.Command.{Command};
+
 use crate::Bytes;
 use ob_base::{Handle, Proc};
+use std::alloc::AllocError;
 
 /// Where a create puts what it makes.
-#[derive(Debug, Drop)]
+#[derive(Clone, PartialEq, Eq, Debug, Drop)]
 pub enum Place {
     /// At a name: absolute where `root` is none, else relative to the object of the handle `root`.
     At {
@@ -25,7 +29,7 @@ pub enum Place {
 /// `NtCreateDirectoryObjectEx` with a shadow directory and of
 /// `NtSetInformationProcess` with `ProcessDeviceMap`, without access masks, and the beginning and the end of
 /// a process (Windows Internals, Processes). `K` is the kind of an object of the set of types.
-#[derive(Debug, Drop)]
+#[derive(PartialEq, Eq, Debug, Drop)]
 pub enum Command<K> {
     /// Makes a directory at a place and opens a handle to it. Uses every flag but OPENLINK.
     CreateDirectory {
@@ -166,4 +170,120 @@ pub enum Command<K> {
     /// Ends the caller: each of its handles is closed, in the order in which they were opened, and it
     /// is live no longer.
     ExitProcess,
+}
+
+impl<K: Copy> Clone for Command<K> {
+    ghost is_clone = { λ command copy. copy ≡ command };
+
+    fn clone(&self) -> Result<Command<K>, AllocError> {
+        match self {
+            Command::CreateDirectory { place, attrs } => Ok(Command::CreateDirectory {
+                place: place.clone()?,
+                attrs: *attrs,
+            }),
+            Command::CreateShadowed {
+                place,
+                attrs,
+                shadow,
+            } => Ok(Command::CreateShadowed {
+                place: place.clone()?,
+                attrs: *attrs,
+                shadow: *shadow,
+            }),
+            Command::CreateLink {
+                place,
+                attrs,
+                target,
+            } => copy_link(place, *attrs, target),
+            Command::CreateObject {
+                place,
+                attrs,
+                kind,
+                args,
+            } => copy_object(place, *attrs, *kind, args),
+            Command::OpenDirectory { root, name, attrs } => Ok(Command::OpenDirectory {
+                root: *root,
+                name: name.clone()?,
+                attrs: *attrs,
+            }),
+            Command::OpenLink { root, name, attrs } => Ok(Command::OpenLink {
+                root: *root,
+                name: name.clone()?,
+                attrs: *attrs,
+            }),
+            Command::OpenObject {
+                root,
+                name,
+                attrs,
+                want,
+            } => Ok(Command::OpenObject {
+                root: *root,
+                name: name.clone()?,
+                attrs: *attrs,
+                want: *want,
+            }),
+            Command::Close { handle } => Ok(Command::Close { handle: *handle }),
+            Command::QueryLink { handle } => Ok(Command::QueryLink { handle: *handle }),
+            Command::QueryName { handle } => Ok(Command::QueryName { handle: *handle }),
+            Command::QueryDirectory {
+                handle,
+                context,
+                room,
+                single,
+                restart,
+            } => Ok(Command::QueryDirectory {
+                handle: *handle,
+                context: *context,
+                room: *room,
+                single: *single,
+                restart: *restart,
+            }),
+            Command::Duplicate {
+                handle,
+                to,
+                inherit,
+            } => Ok(Command::Duplicate {
+                handle: *handle,
+                to: *to,
+                inherit: *inherit,
+            }),
+            Command::MakeTemporary { handle } => Ok(Command::MakeTemporary { handle: *handle }),
+            Command::MakePermanent { handle } => Ok(Command::MakePermanent { handle: *handle }),
+            Command::SetDeviceMap { handle } => Ok(Command::SetDeviceMap { handle: *handle }),
+            Command::NewProcess { inherit } => Ok(Command::NewProcess { inherit: *inherit }),
+            Command::ExitProcess => Ok(Command::ExitProcess),
+        }
+    }
+}
+
+// A copy of a create of a link.
+fn copy_link<K>(place: &Place, attrs: u32, target: &Bytes) -> Result<Command<K>, AllocError>
+    ensures { IfOk result (λ copy. copy ≡ Command.CreateLink place.now attrs target.now) }
+{
+    let place = place.clone()?;
+    let target = target.clone()?;
+    Ok(Command::CreateLink {
+        place,
+        attrs,
+        target,
+    })
+}
+
+// A copy of a create of an object.
+fn copy_object<K: Copy>(
+    place: &Place,
+    attrs: u32,
+    kind: K,
+    args: &Bytes,
+) -> Result<Command<K>, AllocError>
+    ensures { IfOk result (λ copy. copy ≡ Command.CreateObject place.now attrs kind args.now) }
+{
+    let place = place.clone()?;
+    let args = args.clone()?;
+    Ok(Command::CreateObject {
+        place,
+        attrs,
+        kind,
+        args,
+    })
 }

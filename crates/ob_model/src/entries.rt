@@ -1,13 +1,17 @@
 //! The entries that a page of a directory shows.
 
-ghost use Rattle.std.specs.Prelude.{◌≡◌};
+ghost use Rattle.std.specs.Prelude.{◌≡◌, ◌==◌};
+ghost use Rattle.std.specs.Cmp.Lexicographic.{pointwise};
+ghost use Rattle.std.specs.Cmp.Rules.{comparing};
+ghost use Rattle.std.proofs.Common.{rules};
 
 use crate::Bytes;
+use std::alloc::AllocError;
 use std::marker::Model;
 
 /// The name of a type, as the set of types gives it: it is shared with the program, so that giving it
 /// takes no memory. Contracts see a `TypeName` as the list of its bytes.
-#[derive(Debug, Drop)]
+#[derive(Clone, Debug, Drop)]
 pub struct TypeName {
     text: &'static str,
 }
@@ -18,6 +22,20 @@ impl Model for TypeName {
     ghost Value = { List ℕ };
 
     ghost view = { λ t. t.text.now };
+}
+
+impl PartialEq for TypeName {
+    ghost eq = { pointwise ◌==◌ };
+
+    ghost laws = { Prim.search (comparing, rules) };
+
+    fn eq(&self, other: &TypeName) -> bool {
+        self.text == other.text
+    }
+}
+
+impl Eq for TypeName {
+    ghost laws = { Prim.search (comparing, rules) };
 }
 
 impl TypeName {
@@ -38,7 +56,7 @@ impl TypeName {
 
 /// One entry of a directory as a page shows it (ZwQueryDirectoryObject, Windows Driver Kit: a name and the
 /// name of a type).
-#[derive(Debug, Drop)]
+#[derive(Clone, PartialEq, Eq, Debug, Drop)]
 pub struct Listed {
     /// The name, in the spelling that it was inserted with.
     pub name: Bytes,
@@ -59,6 +77,29 @@ impl Model for Entries {
     ghost Value = { List Listed };
 
     ghost view = { λ e. e.items.items };
+}
+
+impl Clone for Entries {
+    ghost is_clone = { λ items copy. copy ≡ items };
+
+    fn clone(&self) -> Result<Entries, AllocError> {
+        let items = self.items.clone()?;
+        Ok(Entries { items })
+    }
+}
+
+impl PartialEq for Entries {
+    ghost eq = { pointwise ⟦<Listed as PartialEq>⟧.eq };
+
+    ghost laws = { Prim.search (comparing, rules) };
+
+    fn eq(&self, other: &Entries) -> bool {
+        self.items == other.items
+    }
+}
+
+impl Eq for Entries {
+    ghost laws = { Prim.search (comparing, rules) };
 }
 
 impl Entries {

@@ -1,8 +1,12 @@
 //! Handle values.
 
-ghost use Rattle.std.specs.Prelude.{◌≡◌};
+ghost use Rattle.std.specs.Prelude.{◌≡◌, ◌==◌};
+ghost use Rattle.std.specs.Cmp.Lexicographic.{pointwise};
+ghost use Rattle.std.specs.Cmp.Rules.{comparing};
+ghost use Rattle.std.proofs.Common.{rules};
 
 use ob_base::Handle;
+use std::alloc::AllocError;
 use std::marker::Model;
 
 /// Handle values, in an order: those that a child inherited. Contracts see them as a list of numbers.
@@ -17,6 +21,29 @@ impl Model for Handles {
     ghost Value = { List ℕ };
 
     ghost view = { λ h. h.items.items };
+}
+
+impl Clone for Handles {
+    ghost is_clone = { λ items copy. copy ≡ items };
+
+    fn clone(&self) -> Result<Handles, AllocError> {
+        let items = self.items.clone()?;
+        Ok(Handles { items })
+    }
+}
+
+impl PartialEq for Handles {
+    ghost eq = { pointwise ◌==◌ };
+
+    ghost laws = { Prim.search (comparing, rules) };
+
+    fn eq(&self, other: &Handles) -> bool {
+        self.items == other.items
+    }
+}
+
+impl Eq for Handles {
+    ghost laws = { Prim.search (comparing, rules) };
 }
 
 impl Handles {

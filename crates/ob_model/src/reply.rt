@@ -4,7 +4,7 @@ use crate::{Bytes, Command, Entries, Handles};
 use ob_base::{Handle, Proc, Status};
 
 /// The value that a reply gives beside its status.
-#[derive(Debug, Drop)]
+#[derive(Clone, PartialEq, Eq, Debug, Drop)]
 pub enum Given {
     /// Nothing.
     Nothing,
@@ -27,7 +27,7 @@ pub enum Given {
 
 /// The reply to a command: a status, and what is given with it. A refusal gives nothing; a page of a
 /// directory is given with each of its four statuses.
-#[derive(Debug, Drop)]
+#[derive(Clone, PartialEq, Eq, Debug, Drop)]
 pub struct Reply {
     /// How the command ended.
     pub status: Status,
@@ -48,7 +48,7 @@ pub enum ParseRun {
 
 /// One event of the namespace's history: one atomic step is made for it. `K` is the kind of an
 /// object of the set of types.
-#[derive(Debug, Drop)]
+#[derive(PartialEq, Eq, Debug, Drop)]
 pub enum Event<K> {
     /// A process begins a command.
     Start {
@@ -74,7 +74,7 @@ pub enum Event<K> {
 }
 
 /// How an event ends.
-#[derive(Debug, Drop)]
+#[derive(Clone, PartialEq, Eq, Debug, Drop)]
 pub enum Answer {
     /// The command is done, and this is its reply.
     Done(Reply),
