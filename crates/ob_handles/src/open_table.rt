@@ -5,9 +5,9 @@ ghost use Rattle.ob_model.specs.State.{most_handles};
 ghost use Rattle.ob_handles.specs.Table.{IsUnused};
 ghost use Rattle.ob_handles.specs.declared.open_table.OpenTable.{OpenTable};
 
+use crate::HandleTable;
 use crate::free::unused_value;
-use crate::{HandleTable, MOST_HANDLES};
-use ob_base::{Fault, Handle, ObjId, Proc, Status};
+use ob_base::{Handle, ObjId, Proc};
 use ob_model::Held;
 use std::alloc::{AllocError, Global};
 use std::collections::BTreeMap;
@@ -37,16 +37,6 @@ impl Model for OpenTable {
     ghost invariant = { λ table. IsIndexed table.by_order.entries table.by_value.entries };
 }
 
-impl OpenTable {
-    /// A value that no handle has. The table must have fewer than 65,535 handles.
-    fn unused(&self) -> Handle
-        requires room { length self.now < most_handles }
-        ensures { IsUnused self.now result }
-    {
-        Handle(unused_value(&self.by_value))
-    }
-}
-
 impl HandleTable for OpenTable {
     ghost handles = { λ table. table };
 
@@ -69,25 +59,8 @@ impl HandleTable for OpenTable {
         Ok(())
     }
 
-    fn grant(
-        &mut self,
-        process: Proc,
-        object: ObjId,
-        inherit: bool,
-        order: u64,
-    ) -> Result<Handle, Fault> {
-        if self.len() >= MOST_HANDLES {
-            return Err(Fault::Refused(Status::InsufficientResources));
-        }
-        let value = self.unused();
-        self.put(Held {
-            process,
-            value,
-            object,
-            inherit,
-            order,
-        })?;
-        Ok(value)
+    fn unused(&mut self) -> Handle {
+        Handle(unused_value(&self.by_value))
     }
 
     fn put(&mut self, held: Held) -> Result<(), AllocError> {

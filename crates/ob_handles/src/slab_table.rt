@@ -8,7 +8,7 @@ use crate::openings::{Opening, drop_stale, held_after, held_by};
 use crate::table::{HandleTable, MOST_HANDLES};
 use crate::values::{forget, key_of, next_unused, note, value_of_row};
 use indexmap::IndexMap;
-use ob_base::{Fault, Handle, ObjId, Proc, Status};
+use ob_base::{Handle, ObjId, Proc};
 use ob_model::Held;
 use slab::Slab;
 use std::alloc::{AllocError, Global};
@@ -55,24 +55,6 @@ impl Model for SlabTable {
         table.opened.items (slab_len table.rows) };
 }
 
-impl SlabTable {
-    /// A value that no handle has. The table must have fewer than 65,535 handles. Takes no memory.
-    fn unused(&mut self) -> Handle
-        requires room { length self.old < most_handles }
-        ensures unused { IsUnused self.old result }
-        ensures unchanged { self.new ≡ self.old }
-    {
-        if let Some(value) = value_of_row(self.rows.vacant_key())
-            && key_of(&self.rows, &self.foreign, value).is_none()
-        {
-            return Handle(value);
-        }
-        let value = next_unused(&self.rows, &self.foreign, self.searched);
-        self.searched = (value / 4) as u16;
-        Handle(value)
-    }
-}
-
 impl HandleTable for SlabTable {
     ghost handles = { λ table. table };
 
@@ -100,25 +82,15 @@ impl HandleTable for SlabTable {
     }
 
     #[inline(always)]
-    fn grant(
-        &mut self,
-        process: Proc,
-        object: ObjId,
-        inherit: bool,
-        order: u64,
-    ) -> Result<Handle, Fault> {
-        if self.len() >= MOST_HANDLES {
-            return Err(Fault::Refused(Status::InsufficientResources));
+    fn unused(&mut self) -> Handle {
+        if let Some(value) = value_of_row(self.rows.vacant_key())
+            && key_of(&self.rows, &self.foreign, value).is_none()
+        {
+            return Handle(value);
         }
-        let value = self.unused();
-        self.put(Held {
-            process,
-            value,
-            object,
-            inherit,
-            order,
-        })?;
-        Ok(value)
+        let value = next_unused(&self.rows, &self.foreign, self.searched);
+        self.searched = (value / 4) as u16;
+        Handle(value)
     }
 
     #[inline(always)]

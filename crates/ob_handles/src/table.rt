@@ -9,7 +9,7 @@ ghost use Rattle.ob_model.specs.declared.state.Held.{Held as AHandle};
 ghost use Rattle.ob_model.specs.State.{most_handles};
 ghost use Rattle.ob_handles.specs.Table.{IsTable, IsUnused, without};
 
-use ob_base::{Fault, Handle, ObjId, Proc};
+use ob_base::{Fault, Handle, ObjId, Proc, Status};
 use ob_model::Held;
 use std::alloc::{AllocError, Global};
 
@@ -40,11 +40,19 @@ pub trait HandleTable: Sized + Drop + Send {
     fn reserve(&mut self, more: usize) -> Result<(), AllocError>
         ensures { handles self.new ≡ handles self.old };
 
+    /// A value that no handle has, by the table's choice. The table must have fewer than 65,535 handles. Takes no
+    /// memory, and the handles stay.
+    fn unused(&mut self) -> Handle
+        requires room { length (handles self.old) < most_handles }
+        ensures unused { IsUnused (handles self.old) result }
+        ensures unchanged { handles self.new ≡ handles self.old };
+
     /// Opens a handle of a process to an object, under an unused value of the table's choice, which it
     /// gives. The order must be above those of the table.
     ///
     /// It is refused with `InsufficientResources` exactly where the table has 65,535 handles. The only
     /// other fault is `Memory`. After either nothing has changed.
+    #[inline(always)]
     fn grant(
         &mut self,
         process: Proc,
@@ -68,7 +76,21 @@ pub trait HandleTable: Sized + Drop + Send {
             ≡ Err (Refused InsufficientResources) }
         ensures refused { IfErr result (λ fault. (fault ≡ Memory)
             ⊎ (most_handles ≤ length (handles self.old))) }
-        ensures unchanged { OnErr result (handles self.new ≡ handles self.old) };
+        ensures unchanged { OnErr result (handles self.new ≡ handles self.old) }
+    {
+        if self.len() >= MOST_HANDLES {
+            return Err(Fault::Refused(Status::InsufficientResources));
+        }
+        let value = self.unused();
+        self.put(Held {
+            process,
+            value,
+            object,
+            inherit,
+            order,
+        })?;
+        Ok(value)
+    }
 
     /// Opens a handle under a value that is given, as a child does that inherits it. The value must be
     /// unused, and the order above those of the table. Where memory runs out nothing has changed.

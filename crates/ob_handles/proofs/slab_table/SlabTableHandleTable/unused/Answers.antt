@@ -1,8 +1,8 @@
--- What leads to no row is no value of the table.
+-- A value that leads to no row is no value of the table.
 use Rattle.std.proofs.Common.{◌∙◌, sym}
 use Rattle.slab.specs.Slab.{get, slab_len}
 use Rattle.ob_handles.proofs.Inside.{none_of, unused_now, value_of_row}
-use Rattle.ob_handles.proofs.slab_table.SlabTable.unused.Goals as goal
+use Rattle.ob_handles.proofs.slab_table.SlabTableHandleTable.unused.Goals as goal
 
 pub returns-clause-unused : goal.returns-clause-unused
 returns-clause-unused c =
