@@ -51,7 +51,7 @@ fn keep_copied(
 fn copied_parse(alloc: Global, parse: &Parsing<HostSet>) -> Result<Parsing<HostSet>, AllocError>
     ensures { IfOk result (λ copy. copy ≡ parse.now) }
 {
-    let face = Arc::new(alloc, parse.face().copied(alloc)?)?;
+    let face = Arc::new(alloc, parse.face().clone()?)?;
     let rest = Bytes::from_slice(alloc, parse.rest())?;
     Ok(Parsing::new(parse.ticket(), face, rest))
 }

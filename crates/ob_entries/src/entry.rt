@@ -1,8 +1,10 @@
 //! One entry of a journal.
 
-ghost use Rattle.std.specs.Prelude.{◌≡◌};
+ghost use Rattle.std.specs.Prelude.{◌≡◌, ◌↔◌, IsTrue};
 
+use crate::alike::{is_same_answer, is_same_event};
 use ob_model::{Answer, Event};
+use ob_types::TypeSet;
 use std::marker::Model;
 
 /// One entry of a journal: an event of the history, who asked for it, and how it ended. `K` is the kind of an object of
@@ -26,4 +28,15 @@ impl<K> Model for Entry<K> {
 
     ghost view = { λ e.
         record { number = e.number; seat = e.seat; event = e.step; answer = e.reply } };
+}
+
+/// Whether these are one entry: of one number and one seat, with the same step and the same reply. Takes no memory. (this
+/// profile)
+pub fn is_same_entry<T: TypeSet>(a: &Entry<T::Kind>, b: &Entry<T::Kind>) -> bool
+    ensures { IsTrue result ↔ a.now ≡ b.now }
+{
+    a.number == b.number
+        && a.seat == b.seat
+        && is_same_event::<T>(&a.step, &b.step)
+        && is_same_answer(&a.reply, &b.reply)
 }

@@ -2,14 +2,12 @@
 //!
 //! An [`Entry`] is one event of a history with its number, the seat whose caller asked, and how it ended. Contracts see it
 //! as the entry of a run of the abstract machine, so that a list of entries may be a run. A [`Segment`] is what follows
-//! one header of a journal. Entries are compared by [`is_same_entry`], what they are made of is copied by
-//! [`copy_command`] and [`copy_reply`], and [`write_header`] and [`write_line`] write the lines of a journal.
-//! [`Operation`] and [`word_of_parse`] have the words that lines are made of, and [`Operation::from_word`] and
-//! [`parse_of_word`] what a word means.
+//! one header of a journal. [`is_same_entry`] compares entries, and [`write_header`] and [`write_line`] write the lines of
+//! a journal. [`Operation`] and [`word_of_parse`] have the words of these lines, and [`Operation::from_word`] and
+//! [`parse_of_word`] their meaning.
 #![tactic(auto)]
 
 mod alike;
-mod copies;
 mod entry;
 mod lines;
 mod members;
@@ -19,9 +17,7 @@ mod steps;
 mod texts;
 mod words;
 
-pub use alike::{is_same_entry, is_same_page, is_same_text};
-pub use copies::{copy_command, copy_reply};
-pub use entry::Entry;
+pub use entry::{Entry, is_same_entry};
 pub use lines::{write_header, write_line};
 pub use segment::Segment;
 pub use words::{Operation, parse_of_word, word_of_parse};

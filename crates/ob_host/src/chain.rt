@@ -31,7 +31,7 @@ impl Chain {
         let mut rest = self;
         while let Chain::More(deletion, place) = rest {
             let alloc = *Box::allocator(place);
-            turned.push(deletion.copied(alloc)?, Box::new(alloc, Chain::End)?);
+            turned.push(deletion.clone()?, Box::new(alloc, Chain::End)?);
             rest = place;
         }
         Ok(turned.reversed())

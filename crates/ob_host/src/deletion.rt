@@ -1,13 +1,10 @@
 //! Deletions of a caller's own objects.
 
-ghost use Rattle.std.specs.Prelude.{◌≡◌, IfOk};
-
 use crate::Kind;
 use ob_model::Bytes;
-use std::alloc::{AllocError, Global};
 
 /// A deletion, as the caller knows the object that was deleted. (this profile)
-#[derive(Debug, Drop)]
+#[derive(Clone, Debug, Drop)]
 pub struct HostDeletion {
     /// Its kind.
     pub kind: Kind,
@@ -19,19 +16,4 @@ pub struct HostDeletion {
     pub serial: u64,
     /// Whether a parse made it.
     pub parsed: bool,
-}
-
-impl HostDeletion {
-    /// A copy. The only error is out of memory.
-    pub(crate) fn copied(&self, alloc: Global) -> Result<HostDeletion, AllocError>
-        ensures { IfOk result (λ copy. copy ≡ self.now) }
-    {
-        Ok(HostDeletion {
-            kind: self.kind,
-            user_data: self.user_data,
-            text: Bytes::from_slice(alloc, self.text.as_slice())?,
-            serial: self.serial,
-            parsed: self.parsed,
-        })
-    }
 }

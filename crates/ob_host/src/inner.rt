@@ -129,7 +129,7 @@ impl Copied for HostInner {
     fn copied(&self) -> Result<HostInner, AllocError> {
         let alloc = *Box::allocator(&self.place);
         Ok(HostInner {
-            object: self.object.copied(alloc)?,
+            object: self.object.clone()?,
             handles: self.handles,
             serial: self.serial,
             parsed: self.parsed,

@@ -1,16 +1,14 @@
 //! A caller's own objects.
 
 ghost use Rattle.std.specs.Prelude.{◌≡◌, IfOk};
-ghost use Rattle.std.specs.Cmp.{partial_equiv_from_equiv};
-ghost use Rattle.ob_host.specs.Objects.{same_object, object_below, text_below};
-ghost use Rattle.ob_host.specs.ObjectLaws.{objects_equiv};
+ghost use Rattle.ob_host.specs.Objects.{object_below, text_below};
 
 use crate::Kind;
 use ob_model::Bytes;
 use std::alloc::{AllocError, Global};
 
 /// A caller's own object, as the caller knows it, which never changes. (this profile)
-#[derive(Debug, Drop)]
+#[derive(Clone, PartialEq, Eq, Debug, Drop)]
 pub struct HostObject {
     /// Its kind.
     pub kind: Kind,
@@ -22,17 +20,6 @@ pub struct HostObject {
 }
 
 impl HostObject {
-    /// A copy. The only error is out of memory.
-    pub fn copied(&self, alloc: Global) -> Result<HostObject, AllocError>
-        ensures { IfOk result (λ copy. copy ≡ self.now) }
-    {
-        Ok(HostObject {
-            kind: self.kind,
-            user_data: self.user_data,
-            text: Bytes::from_slice(alloc, self.text.as_slice())?,
-        })
-    }
-
     /// The object of a kind that the rest of a name leads to from this one. The only error is out of memory.
     pub(crate) fn below(
         &self,
@@ -48,23 +35,6 @@ impl HostObject {
             text: text_below(alloc, self.text.as_slice(), rest)?,
         })
     }
-}
-
-/// Two objects are equal where kind, user data and text are. (this profile)
-impl PartialEq for HostObject {
-    ghost eq = { same_object };
-
-    ghost laws = { partial_equiv_from_equiv objects_equiv };
-
-    fn eq(&self, other: &HostObject) -> bool {
-        self.kind == other.kind
-            && self.user_data == other.user_data
-            && self.text.as_slice() == other.text.as_slice()
-    }
-}
-
-impl Eq for HostObject {
-    ghost laws = { objects_equiv };
 }
 
 // A text and the rest of a name after it, with a backslash between them where there is a text and the rest

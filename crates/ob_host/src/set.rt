@@ -247,6 +247,6 @@ fn instance(
 ) -> Result<(HostObject, HostInner), AllocError>
     ensures { IfOk result (λ made. made ≡ (object, unopened parsed object)) }
 {
-    let inner = HostInner::new(alloc, object.copied(alloc)?, parsed)?;
+    let inner = HostInner::new(alloc, object.clone()?, parsed)?;
     Ok((object, inner))
 }

@@ -82,7 +82,7 @@ pub(crate) fn start_core<T: TypeSet, H: HandleTable>(
     };
     match started {
         Started::Done(reply) => {
-            let Twice { entry, receipt } = told_twice(alloc, writer, process, asked, &reply)?;
+            let Twice { entry, receipt } = told_twice(writer, process, asked, &reply)?;
             Ok(Made {
                 started: Started::Done(reply),
                 entry,
@@ -147,7 +147,6 @@ fn with_rooms<T: TypeSet, H: HandleTable>(
 
 /// The entry of a start that got a reply. It takes memory only for a text or a page.
 fn entry_told<K: Drop>(
-    alloc: Global,
     writer: Writer,
     process: Proc,
     asked: Asked<K>,
@@ -160,7 +159,7 @@ fn entry_told<K: Drop>(
     ensures without_memory { OnErr result (wants_memory reply.now.given ≡ true) }
 {
     let Asked { command, room } = asked;
-    match copy_in(alloc, reply, room) {
+    match copy_in(reply, room) {
         Ok(told) => Ok(entry_of(writer, started_by(process, command), Answer::Done(told))),
         Err(refused) => {
             mem::drop(command);
@@ -171,7 +170,6 @@ fn entry_told<K: Drop>(
 
 /// The same twice.
 fn told_twice<K: Drop>(
-    alloc: Global,
     writer: Writer,
     process: Proc,
     asked: (Asked<K>, Asked<K>),
@@ -188,14 +186,14 @@ fn told_twice<K: Drop>(
     ensures without_memory { OnErr result (wants_memory reply.now.given ≡ true) }
 {
     let (asked, again) = asked;
-    let entry = match entry_told(alloc, writer, process, asked, reply) {
+    let entry = match entry_told(writer, process, asked, reply) {
         Ok(entry) => entry,
         Err(refused) => {
             mem::drop(again);
             return Err(refused);
         }
     };
-    match entry_told(alloc, writer, process, again, reply) {
+    match entry_told(writer, process, again, reply) {
         Ok(receipt) => Ok(Twice { entry, receipt }),
         Err(refused) => {
             mem::drop(entry);

@@ -3,7 +3,6 @@
 ghost use Rattle.std.specs.Prelude.{◌≡◌, IfOk};
 
 use crate::place::ReceiptPlace;
-use ob_entries::copy_command;
 use ob_model::Command;
 use std::alloc::{AllocError, Global};
 use std::marker::Model;
@@ -35,7 +34,7 @@ impl<K: Copy> Prepared<K> {
     pub fn new(alloc: Global, command: &Command<K>) -> Result<Prepared<K>, AllocError>
         ensures { IfOk result (λ prepared. prepared ≡ command.now) }
     {
-        let (command, again) = two_copies(alloc, command)?;
+        let (command, again) = two_copies(command)?;
         match two_places(alloc) {
             Ok((place, later)) => Ok(Prepared {
                 command,
@@ -53,15 +52,12 @@ impl<K: Copy> Prepared<K> {
 }
 
 /// Two copies. The only error is out of memory.
-fn two_copies<K: Copy>(
-    alloc: Global,
-    command: &Command<K>,
-) -> Result<(Command<K>, Command<K>), AllocError>
+fn two_copies<K: Copy>(command: &Command<K>) -> Result<(Command<K>, Command<K>), AllocError>
     ensures copy { IfOk result (λ copies. copies.0 ≡ command.now) }
     ensures again { IfOk result (λ copies. copies.1 ≡ command.now) }
 {
-    let copy = copy_command(alloc, command)?;
-    match copy_command(alloc, command) {
+    let copy = command.clone()?;
+    match command.clone() {
         Ok(again) => Ok((copy, again)),
         Err(refused) => {
             mem::drop(copy);

@@ -6,10 +6,9 @@ ghost use Rattle.ob_locked.specs.Rooms.{wants_memory, values_given, values_wante
 
 use ob_base::{Handle, Proc};
 use ob_core::{Core, HandleTable};
-use ob_entries::copy_reply;
 use ob_model::{Command, Given, Handles, Reply};
 use ob_types::TypeSet;
-use std::alloc::{AllocError, Global};
+use std::alloc::AllocError;
 
 /// How many handle values the reply to a command may give: those of a child.
 pub(crate) fn values_of<T: TypeSet, H: HandleTable>(
@@ -39,7 +38,7 @@ fn values_in(room: Vec<Handle>, values: &[Handle]) -> Handles
 }
 
 /// A copy of a reply, whose handle values fit the room. It takes memory only for a text or a page.
-pub(crate) fn copy_in(alloc: Global, reply: &Reply, room: Vec<Handle>) -> Result<Reply, AllocError>
+pub(crate) fn copy_in(reply: &Reply, room: Vec<Handle>) -> Result<Reply, AllocError>
     requires empty { room.items ≡ [] }
     requires fits { length (values_given reply.now.given) ≤ vec_capacity room }
     ensures copy { IfOk result (λ copy. copy ≡ reply.now) }
@@ -51,7 +50,7 @@ pub(crate) fn copy_in(alloc: Global, reply: &Reply, room: Vec<Handle>) -> Result
         Given::Process(process, values) => {
             Given::Process(*process, values_in(room, values.as_slice()))
         }
-        Given::Text(_) | Given::Page { .. } => return copy_reply(alloc, reply),
+        Given::Text(_) | Given::Page { .. } => return reply.clone(),
     };
     Ok(Reply {
         status: reply.status,

@@ -4,7 +4,6 @@ ghost use Rattle.std.specs.Prelude.{◌≡◌, ◌↔◌, IsTrue};
 ghost use Rattle.ob_reader.specs.Reading.{gift_of, said_of};
 
 use crate::said::{Gift, Numbers, Said};
-use ob_entries::{is_same_page, is_same_text};
 use ob_model::{Answer, Given, Handles};
 
 /// Whether a line says this of an answer: the number of its status, and all that is given, each entry and each value in its
@@ -28,7 +27,7 @@ fn is_gift(gift: &Gift, given: &Given) -> bool
     match (gift, given) {
         (Gift::Nothing, Given::Nothing) => true,
         (Gift::Handle(handle), Given::Handle(other)) => *handle == u64::from(other.0),
-        (Gift::Text(text), Given::Text(other)) => is_same_text(text, other),
+        (Gift::Text(text), Given::Text(other)) => text == other,
         (Gift::Process(process, numbers), Given::Process(other, handles)) => {
             *process == u64::from(other.0) && has_numbers(numbers, handles)
         }
@@ -38,7 +37,7 @@ fn is_gift(gift: &Gift, given: &Given) -> bool
                 entries: others,
                 context: stamp,
             },
-        ) => context == stamp && is_same_page(entries, others),
+        ) => context == stamp && entries == others,
         _ => false,
     }
 }
