@@ -1,12 +1,13 @@
 -- The laws of keys.
 use Rattle.std.proofs.Common.{◌≡◌, ◌≢◌, ℕ, ◌+◌, ◌-◌, ◌<◌, ◌≤◌, Bool, true, false, ◌&&◌, not, nat_le, if◌then◌else◌, List, [], ◌∷◌, Option, None, Some, length, refl, arith, length-drop}
+use Rattle.std.proofs.lemmas.Bool.{and_parts}
 use Rattle.std.specs.Cmp.Lexicographic.{bytes_decides}
 use Rattle.ob_model.specs.Names.{separator, begins_with_separator, next_component, after_component, is_profile_text, longest_name, substituted}
 use Rattle.ob_model.specs.Procedures.{ParseAnswer, Itself, Front, Reparse, Refused, FrontIsUsed, ItselfIsAtEnd, ParsedIsIdle, OwnFaceIsSame, SameFacesAnswerAlike}
 use Rattle.ob_plain.specs.Arguments.{same_path, without_separator}
 use Rattle.ob_plain.specs.Handles.{unopened, IsIdle}
 use Rattle.ob_key.specs.Entries.{KeyPlace, is_there, target_of, path_below, same_tables}
-use Rattle.ob_key.specs.Equality.{first_true, second_true, tables_are_one, table_is_same}
+use Rattle.ob_key.specs.Equality.{tables_are_one, table_is_same}
 use Rattle.ob_key.specs.Key.{key_procedures, key_answer, answer_to, answer_at}
 use Rattle.ob_key.specs.declared.entry.KeyEntry.{KeyEntry}
 
@@ -18,8 +19,9 @@ key_own_face face =
 
 pub key_same_answers : SameFacesAnswerAlike key_procedures
 key_same_answers a b rest e =
-    let paths : a.path ≡ b.path = (bytes_decides a.path b.path).0 (first_true (same_path a.path b.path) (same_tables a.entries b.entries) e) in
-    let tables : a.entries ≡ b.entries = tables_are_one a.entries b.entries (second_true (same_path a.path b.path) (same_tables a.entries b.entries) e) in
+    let same = and_parts (same_path a.path b.path) (same_tables a.entries b.entries) e in
+    let paths : a.path ≡ b.path = (bytes_decides a.path b.path).0 same.0 in
+    let tables : a.entries ≡ b.entries = tables_are_one a.entries b.entries same.1 in
     λ i. key_answer (record { entries = tables i; path = paths i }) rest
 
 -- where a link answers with a front, that is false
