@@ -6,13 +6,13 @@ use Rattle.std.specs.declared.sync.ledger.Ledger as Ledger
 use Rattle.ob_device.specs.contracts.device.DeviceSet as devices
 use Rattle.ob_device.specs.contracts.device.DeviceKind as kind
 use Rattle.ob_device.specs.contracts.device.DeviceFace as face
-use Rattle.ob_device.specs.contracts.device.DeviceInner as inner
+use Rattle.ob_plain.specs.contracts.handles.HandleCount as inner
 use Rattle.ob_device.specs.contracts.device.DeviceSetTypeSet.TheImpl as set
 use Rattle.ob_device.specs.contracts.device.DeviceKindPartialEq.TheImpl as equal
 use Rattle.ob_device.proofs.device.DeviceSet.TheSendSync as sets
 use Rattle.ob_device.proofs.device.DeviceKind.TheSendSync as kinds
 use Rattle.ob_device.proofs.device.DeviceFace.TheSendSync as faces
-use Rattle.ob_device.proofs.device.DeviceInner.TheSendSync as inners
+use Rattle.ob_plain.proofs.handles.HandleCount.TheSendSync as inners
 use Rattle.ob_handles.specs.contracts.slab_table.SlabTable as table
 use Rattle.ob_handles.specs.contracts.slab_table.SlabTableHandleTable.TheImpl as handles
 use Rattle.ob_handles.proofs.slab_table.SlabTable.TheSendSync as tables

@@ -2,17 +2,16 @@
 --
 -- Sources: Windows Internals, Object Manager (object types and their methods), for the types' names and that
 -- a device parses; the arguments, the paths and the refusals' numbers are this profile.
-use Rattle.std.specs.Prelude.{◌≡◌, ℕ, ◌+◌, ◌^◌, ◌-◌, Bool, ◌||◌, not, true, false, if◌then◌else◌, List, [], ◌∷◌, Option, None, Some, codes, length, drop, min}
-use Rattle.ob_model.specs.Names.{begins_with_separator}
+use Rattle.std.specs.Prelude.{ℕ, Bool, ◌||◌, not, true, false, if◌then◌else◌, List, [], ◌∷◌, Option, None, Some, codes, length}
 use Rattle.ob_model.specs.Procedures.{Procedures, ParseAnswer, Front, Refused}
-use Rattle.ob_plain.specs.Arguments.{is_readable, pieces, same_path}
+use Rattle.ob_plain.specs.Arguments.{is_readable, pieces, same_path, without_separator}
+use Rattle.ob_plain.specs.Handles.{unopened, one_more}
 use Rattle.ob_device.specs.Paths.{has_path, has_empty_path, same_tables}
 use Rattle.ob_device.specs.declared.device.DeviceSet.{DeviceSet}
 use Rattle.ob_device.specs.declared.device.DeviceKind.{DeviceKind}
 use Rattle.ob_device.specs.declared.device.DeviceKind.TheVariants.{Device, File}
 use Rattle.ob_device.specs.declared.device.DeviceFace.{DeviceFace}
 use Rattle.ob_device.specs.declared.device.DeviceFace.TheVariants as faces
-use Rattle.ob_device.specs.declared.device.DeviceInner.{DeviceInner}
 
 -- the name of the kind's type
 abbrev pub name_of : DeviceKind → List ℕ
@@ -44,35 +43,19 @@ abbrev pub refuses_arguments : DeviceKind → List ℕ → Option ℕ
 refuses_arguments Device args = if not (is_readable args) || has_empty_path (pieces args) then Some 1 else None
 refuses_arguments File args = Some 5
 
--- no handle is open
-abbrev pub IsIdle : DeviceInner → Type 0
-IsIdle inner = inner.handles ≡ 0
-
--- the inner value of what was not opened yet
-abbrev pub unopened : DeviceInner
-unopened = record { handles = 0 }
-
--- one handle more, stopping at the greatest u32
-abbrev pub one_more : DeviceInner → DeviceInner
-one_more inner = record inner { handles = min (inner.handles + 1) (2 ^ 32 - 1) }
-
--- the path that the rest of a name names on a device: the rest without one leading backslash
-abbrev pub path_named : List ℕ → List ℕ
-path_named rest = if begins_with_separator rest then drop 1 rest else rest
-
 -- what a device with this table answers to a rest: the whole of it leads to a file
-abbrev pub device_answer : List (List ℕ) → List ℕ → ParseAnswer DeviceFace DeviceInner
+abbrev pub device_answer : List (List ℕ) → List ℕ → ParseAnswer DeviceFace ℕ
 device_answer table [] = Front 0 (faces.File []) unopened
 device_answer table (b ∷ bs) =
-    if has_path table (path_named (b ∷ bs)) then Front (length (b ∷ bs)) (faces.File (path_named (b ∷ bs))) unopened else Refused 3
+    if has_path table (without_separator (b ∷ bs)) then Front (length (b ∷ bs)) (faces.File (without_separator (b ∷ bs))) unopened else Refused 3
 
 -- what an object with this face answers to a rest; a file doesn't parse, and refuses each
-abbrev pub answer_to : DeviceFace → List ℕ → ParseAnswer DeviceFace DeviceInner
+abbrev pub answer_to : DeviceFace → List ℕ → ParseAnswer DeviceFace ℕ
 answer_to (faces.Device table) rest = device_answer table rest
 answer_to (faces.File path) rest = Refused 3
 
--- what each procedure means
-abbrev pub device_procedures : Procedures DeviceKind DeviceSet DeviceFace DeviceInner
+-- what each procedure means; the inner value is the number of handles
+abbrev pub device_procedures : Procedures DeviceKind DeviceSet DeviceFace ℕ
 device_procedures = record {
   type_name = name_of;
   kind_of = kind_of;
@@ -83,7 +66,7 @@ device_procedures = record {
   made = λ _ args. (faces.Device (pieces args), unopened);
   parsed = answer_to;
   refuses_to_open = λ _ _ _. None;
-  opened = λ set inner _. (set, one_more inner);
-  closed = λ set inner _ system_left. (set, record inner { handles = system_left });
+  opened = λ set handles _. (set, one_more handles);
+  closed = λ set _ _ system_left. (set, system_left);
   deleted = λ set _. set;
 }

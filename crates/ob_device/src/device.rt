@@ -3,12 +3,13 @@
 ghost use Rattle.std.specs.Prelude.{◌≡◌, true, refl};
 ghost use Rattle.std.proofs.Common.{rules};
 ghost use Rattle.ob_model.specs.Names.{begins_with_separator};
-ghost use Rattle.ob_device.specs.Device.{device_procedures, same_device_kind, IsIdle, path_named};
+ghost use Rattle.ob_plain.specs.Handles.{IsIdle};
+ghost use Rattle.ob_device.specs.Device.{device_procedures, same_device_kind};
 ghost use Rattle.ob_device.specs.DeviceLaws.{device_front, device_itself, device_parsed_idle, device_own_face, device_same_answers};
 ghost use Rattle.ob_device.specs.declared.device.DeviceKind.TheVariants.{Device, File};
 
 use crate::PathTable;
-use ob_plain::{Path, is_readable};
+use ob_plain::{HandleCount, Path, is_readable, without_separator};
 use ob_types::{ParseAnswer, Reason, Refusal, TypeSet};
 use std::alloc::{AllocError, Global};
 
@@ -30,13 +31,6 @@ pub enum DeviceFace {
     File(Path),
 }
 
-/// The part of a device or a file that the procedures change. (this profile)
-#[derive(Debug, Drop)]
-pub struct DeviceInner {
-    /// The handles that are open to it; at the greatest u32, that many or more.
-    pub handles: u32,
-}
-
 /// The set of devices and files. Its value holds nothing.
 #[derive(Debug, Drop)]
 pub struct DeviceSet;
@@ -56,7 +50,7 @@ impl TypeSet for DeviceSet {
 
     type Face = DeviceFace;
 
-    type Inner = DeviceInner;
+    type Inner = HandleCount;
 
     ghost procedures = { device_procedures };
 
@@ -92,7 +86,7 @@ impl TypeSet for DeviceSet {
         alloc: Global,
         kind: DeviceKind,
         args: &[u8],
-    ) -> Result<(DeviceFace, DeviceInner), Refusal> {
+    ) -> Result<(DeviceFace, HandleCount), Refusal> {
         if kind == DeviceKind::File {
             return Err(Refusal::Code(5));
         }
@@ -103,38 +97,38 @@ impl TypeSet for DeviceSet {
         if table.has_empty() {
             return Err(Refusal::Code(1));
         }
-        Ok((DeviceFace::Device(table), DeviceInner { handles: 0 }))
+        Ok((DeviceFace::Device(table), HandleCount::new()))
     }
 
     fn parse(
         alloc: Global,
         face: &DeviceFace,
         rest: &[u8],
-    ) -> Result<ParseAnswer<DeviceFace, DeviceInner>, AllocError> {
+    ) -> Result<ParseAnswer<DeviceFace, HandleCount>, AllocError> {
         let DeviceFace::Device(table) = face else {
             return Ok(ParseAnswer::Refused(3));
         };
-        let path = path_named(rest);
+        let path = without_separator(rest);
         if !rest.is_empty() && !table.has(path) {
             return Ok(ParseAnswer::Refused(3));
         }
         Ok(ParseAnswer::Front {
             used: rest.len(),
             next: DeviceFace::File(Path::new(alloc, path)?),
-            inner: DeviceInner { handles: 0 },
+            inner: HandleCount::new(),
         })
     }
 
-    fn on_open(&mut self, inner: &mut DeviceInner, _reason: Reason) -> Result<(), u16> {
-        inner.handles = inner.handles.saturating_add(1);
+    fn on_open(&mut self, handles: &mut HandleCount, _reason: Reason) -> Result<(), u16> {
+        handles.add_handle();
         Ok(())
     }
 
-    fn on_close(&mut self, inner: &mut DeviceInner, _process_left: u32, system_left: u32) {
-        inner.handles = system_left;
+    fn on_close(&mut self, handles: &mut HandleCount, _process_left: u32, system_left: u32) {
+        handles.set_handles(system_left);
     }
 
-    fn on_delete(&mut self, _inner: DeviceInner) {}
+    fn on_delete(&mut self, _handles: HandleCount) {}
 
     ghost refused_open = { λ set inner _ _ told. Prim.search rules };
 
@@ -163,11 +157,4 @@ impl TypeSet for DeviceSet {
       | Device ↦ elim [ Device ↦ refl | File ↦ refl ]
       | File ↦ elim [ Device ↦ refl | File ↦ refl ]
     ] };
-}
-
-// The path that the rest of a name names on a device: the rest without one leading backslash.
-fn path_named(rest: &[u8]) -> &[u8]
-    ensures { result.now ≡ path_named rest.now }
-{
-    rest.strip_prefix(b"\\").unwrap_or(rest)
 }

@@ -4,5 +4,5 @@
 mod device;
 mod table;
 
-pub use device::{DeviceFace, DeviceInner, DeviceKind, DeviceSet};
+pub use device::{DeviceFace, DeviceKind, DeviceSet};
 pub use table::PathTable;

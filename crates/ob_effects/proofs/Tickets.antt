@@ -4,8 +4,9 @@ use Rattle.std.specs.List.{AllPairs, list_any}
 use Rattle.std.specs.Str.{bytes_eq}
 use Rattle.std.proofs.lemmas.Bool.{ne_eqb}
 use Rattle.std.proofs.lemmas.List.Elements.{All-nil, All-head, All-tail, All-push, All-filter, filter_passes}
-use Rattle.std.proofs.lemmas.List.Folds.{list_any-append}
+use Rattle.std.proofs.lemmas.List.Folds.{list_any-append, list_any-from_Any}
 use Rattle.std.proofs.lemmas.List.Kept.{AllPairs-cons, AllPairs-filter}
+use Rattle.std.proofs.lemmas.List.Quantifiers.{Any-push}
 use Rattle.std.proofs.lemmas.Slice.Eq.{bytes_eq-Decides}
 use Rattle.ob_effects.specs.Waiting.{AreTickets, IsUnderVariable}
 use Rattle.ob_effects.specs.Kept.{AreApart}
@@ -75,11 +76,7 @@ any_pushed : (m n : ℕ) (xs : List ℕ) → list_any (λ x. x == m) xs ≡ true
 any_pushed m n xs e = list_any-append (λ x. x == m) xs (n ∷ []) ∙ ap (λ b. b || list_any (λ x. x == m) (n ∷ [])) e
 
 any_last : (n : ℕ) (xs : List ℕ) → list_any (λ x. x == n) (xs ++ n ∷ []) ≡ true
-any_last n xs = list_any-append (λ x. x == n) xs (n ∷ []) ∙ (ap (λ b. list_any (λ x. x == n) xs || (b || false)) (eq-eqb n n refl) ∙ or_true (list_any (λ x. x == n) xs))
-  where
-    or_true : (b : Bool) → (b || (true || false)) ≡ true
-    or_true true = refl
-    or_true false = refl
+any_last n xs = list_any-from_Any (λ x. x == n) (xs ++ n ∷ []) (Any-push (λ x. (x == n) ≡ true) xs n (eq-eqb n n refl))
 
 pairs_pushed : (n : ℕ) (xs : List ℕ) → AllPairs (λ a b. a < b) xs → All (λ x. x < n) xs → AllPairs (λ a b. a < b) (xs ++ n ∷ [])
 pairs_pushed n [] rising below = AllPairs-cons (λ a b. a < b) n [] (All-nil (λ b. n < b)) rising

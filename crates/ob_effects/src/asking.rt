@@ -1,57 +1,40 @@
-//! Requests of processes, run to their replies; and a child, with the variables that it begins with.
+//! A child, with the variables that it begins with.
 
-ghost use Rattle.std.specs.Prelude.{◌≡◌, true, IfOk, OnErr};
+ghost use Rattle.std.specs.Prelude.{◌≡◌, ◌⊎◌, true, IfOk, OnErr};
+ghost use Rattle.ob_model.specs.declared.command.Command.TheVariants.{NewProcess};
+ghost use Rattle.ob_model.specs.declared.reply.Event.TheVariants.{Start};
 ghost use Rattle.ob_model.specs.Processes.{values_in};
-ghost use Rattle.ob_lines.specs.declared.request.Request.TheVariants.{NewProcess};
-ghost use Rattle.ob_lines.specs.Grammar.{HasTexts, request_seen};
+ghost use Rattle.ob_runner.specs.Completes.{Completes, Falters};
+ghost use Rattle.ob_standard.specs.Standard.{standard};
 ghost use Rattle.ob_requests.specs.Commands.{with_child};
 ghost use Rattle.ob_requests.specs.Tables.{variables_in, value_in, has_variable, DifferInValues};
 ghost use Rattle.ob_requests.specs.Variables.{handed_on};
-ghost use Rattle.ob_effects.specs.Effects.{IsAsked, IsUnanswered};
+ghost use Rattle.ob_effects.specs.Waiting.{Steps};
 
 use ob_base::{Handle, Proc};
-use ob_lines::{Change, Request};
-use ob_model::{Given, Reply};
-use ob_requests::{Asker, Table, Variable, Variables, command_of, keep};
+use ob_lines::Change;
+use ob_model::{Command, Given, Reply};
+use ob_requests::{Table, Variable, Variables, keep};
+use ob_standard::StandardKind;
 use ob_standard_core::StandardCore;
 use std::alloc::AllocError;
 
-// Runs the request of a process to its reply.
-#[inline(always)]
-pub(crate) fn ask(
-    core: &mut StandardCore,
-    variables: &Variables,
-    process: Proc,
-    request: &Request<&[u8]>,
-) -> Result<Reply, AllocError>
-    requires { HasTexts (request_seen request.now) }
-    ensures asked { IfOk result (λ reply.
-        IsAsked (request_seen request.now) process (variables_in variables.now) core.old reply core.new) }
-    ensures wanting { OnErr result (IsUnanswered (request_seen request.now) process
-        (variables_in variables.now) core.old core.new) }
-{
-    match command_of(&Asker { variables, process }, request) {
-        Ok(command) => core.run(variables.alloc, process, &command),
-        Err(fault) => Err(fault),
-    }
-}
-
-// Begins a child of a process, and sets its process variable, for which there is room: to the child, which has the variables
-// that are handed on to it, or to 0.
+// Runs a command that begins a child of a process, and sets the child's process variable, for which there is room: to the child, which has the
+// variables that are handed on to it, or to 0.
 pub(crate) fn begin_child(
     core: &mut StandardCore,
     variables: &mut Variables,
     process: Proc,
-    request: &Request<&[u8]>,
+    command: &Command<StandardKind>,
     variable: &[u8],
     inherit: bool,
 ) -> Result<Reply, AllocError>
-    requires child { request_seen request.now ≡ NewProcess inherit variable.now }
+    requires child { command.now ≡ NewProcess inherit }
     requires room { has_variable variables.old.processes variable.now ≡ true }
-    ensures asked { IfOk result (λ reply.
-        IsAsked (request_seen request.now) process (variables_in variables.old) core.old reply core.new) }
-    ensures wanting { OnErr result (IsUnanswered (request_seen request.now) process
-        (variables_in variables.old) core.old core.new) }
+    ensures done { IfOk result (λ reply. (steps : Steps)
+        × Completes standard (Start process command.now) steps core.old reply core.new) }
+    ensures wanting { OnErr result ((core.new ≡ core.old) ⊎ ((steps : Steps)
+        × Falters standard (Start process command.now) steps core.old core.new)) }
     ensures kept { OnErr result (variables_in variables.new ≡ variables_in variables.old) }
     ensures begun { IfOk result (λ reply. variables_in variables.new
         ≡ with_child (variables_in variables.old) process variable.now inherit reply.given) }
@@ -60,7 +43,7 @@ pub(crate) fn begin_child(
     let next = core.next_process();
     variables.room_for_variables(next)?;
     let own = variables.variables_for_child(process, next, inherit)?;
-    let reply = ask(core, variables, process, request)?;
+    let reply = core.run(variables.alloc, process, command)?;
     if let Given::Process(child, _) = &reply.given {
         variables.begin(*child, handed_on(core, *child, own));
     }

@@ -11,7 +11,7 @@ ghost use Rattle.ob_effects.specs.Waiting.{variables_answered};
 use ob_base::Proc;
 use ob_lines::{KindForm, NameForm, Request};
 use ob_model::{Command, Reply};
-use ob_requests::{Asker, Variables, command_of, given_handle};
+use ob_requests::{Variables, command_of, given_handle};
 use ob_standard::StandardKind;
 use std::alloc::AllocError;
 
@@ -32,7 +32,6 @@ pub fn open_command(
     ensures room { OnOk result (HasRoom variables.new.handles process variable.now) }
     ensures same { variables_in variables.new ≡ variables_in variables.old }
 {
-    variables.room_for_variable(process, variable)?;
     let (want, name, attrs) = asked;
     let request = Request::OpenObject {
         want,
@@ -40,7 +39,8 @@ pub fn open_command(
         attrs,
         variable,
     };
-    command_of(&Asker { variables, process }, &request)
+    let (command, _) = command_of(variables, process, &request)?;
+    Ok(command)
 }
 
 /// Keeps the reply of an open under its variable: the handle that was given, or 0, and no open waits there any longer. (this profile)

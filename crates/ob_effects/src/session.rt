@@ -11,12 +11,12 @@ ghost use Rattle.ob_standard.specs.Standard.{standard};
 ghost use Rattle.ob_survey.specs.Surveying.{survey_of};
 ghost use Rattle.ob_tree.specs.Index.{Rise};
 
-use crate::asking::{ask, begin_child};
+use crate::asking::begin_child;
 use crate::outcome::LineOutcome;
 use ob_base::Proc;
-use ob_lines::{Change, Form, Request, change_of};
+use ob_lines::{Change, Form, Request};
 use ob_model::Reply;
-use ob_requests::Variables;
+use ob_requests::{Variables, command_of};
 use ob_standard_core::{StandardCore, StandardWaits};
 use ob_tree::Survey;
 use std::alloc::{AllocError, Global};
@@ -131,20 +131,15 @@ fn reply_to(
         (variables_in variables.old) core.old core.new) }
     ensures kept { OnErr result (variables_in variables.new ≡ variables_in variables.old) }
 {
-    let change = change_of(request);
-    variables.make_room(process, change)?;
+    let (command, change) = command_of(variables, process, request)?;
     if let Change::SetsProcess {
         process: child,
         inherit,
     } = change
     {
-        return begin_child(core, variables, process, request, child, inherit);
+        return begin_child(core, variables, process, &command, child, inherit);
     }
-    match ask(core, variables, process, request) {
-        Ok(reply) => {
-            variables.apply(process, change, &reply);
-            Ok(reply)
-        }
-        Err(fault) => Err(fault),
-    }
+    let reply = core.run(variables.alloc, process, &command)?;
+    variables.apply(process, change, &reply);
+    Ok(reply)
 }

@@ -1,14 +1,14 @@
 -- The laws of a caller's own objects.
 use Rattle.std.proofs.Common.{◌≡◌, ◌≢◌, ℕ, zero, suc, ◌<◌, Bool, true, false, ◌==◌, if◌then◌else◌, List, [], ◌∷◌, Option, None, Some, length, refl, ap, arith}
 use Rattle.ob_model.specs.Procedures.{Itself, Front, FrontIsUsed, ItselfIsAtEnd, ParsedIsIdle, OwnFaceIsSame, SameFacesAnswerAlike}
-use Rattle.std.proofs.lemmas.Bool.{eqb-true}
+use Rattle.std.proofs.lemmas.Bool.{and_parts, eqb-true}
 use Rattle.ob_types.specs.Unnoticed.{IsUnnoticed}
 use Rattle.ob_host.specs.Deletions.{Deletions, Keeps, Passes, with_delete, after_next, behind_next}
 use Rattle.ob_host.specs.declared.deletion.HostDeletion.{HostDeletion}
 use Rattle.ob_host.specs.Kept.{Kept}
 use Rattle.ob_host.specs.Kinds.{same_kind}
 use Rattle.ob_host.specs.Objects.{object_below}
-use Rattle.ob_host.specs.ObjectLaws.{second_true, same_object_is_one, own_object_is_same}
+use Rattle.ob_host.specs.ObjectLaws.{same_object_is_one, own_object_is_same}
 use Rattle.ob_host.specs.Host.{host_procedures, kind_below, is_itself, answer_below, answer_to, unopened, deletion_of, IsIdle}
 use Rattle.ob_host.specs.declared.kind.Kind.{Kind}
 use Rattle.ob_host.specs.declared.kind.Kind.TheVariants.{Key}
@@ -65,7 +65,7 @@ empty object None rest e = cc
 empty object (Some kind) rest e =
     let below = object_below object kind rest in
     let itself = itself_if (is_itself kind rest) (length rest) below (unopened true below) e in
-    no_bytes rest (eqb-true (length rest) 0 (second_true (same_kind kind Key) (length rest == 0) itself))
+    no_bytes rest (eqb-true (length rest) 0 (and_parts (same_kind kind Key) (length rest == 0) itself).1)
 
 pub host_itself : ItselfIsAtEnd host_procedures
 host_itself object rest e = empty object (kind_below object.kind) rest e

@@ -1,6 +1,6 @@
 -- Objects that are found the same are one.
 use Rattle.std.proofs.Common.{◌≡◌, ◌∙◌, Bool, true, false, ◌&&◌, nat_eq, refl, sym, ap}
-use Rattle.std.proofs.lemmas.Bool.{eqb-true, eq-eqb}
+use Rattle.std.proofs.lemmas.Bool.{and_parts, eqb-true, eq-eqb}
 use Rattle.std.specs.Cmp.{IsEquivalence, decided}
 use Rattle.std.specs.Cmp.Lexicographic.{pointwise, bytes_decides}
 use Rattle.ob_host.specs.Kinds.{same_kind}
@@ -8,21 +8,14 @@ use Rattle.ob_host.specs.KindLaws.{same_kind_is_one, own_kind_is_same}
 use Rattle.ob_host.specs.Objects.{same_object}
 use Rattle.ob_host.specs.declared.object.HostObject.{HostObject}
 
-first_true : (s t : Bool) → (s && t) ≡ true → s ≡ true
-first_true true t e = refl
-first_true false t e = e
-
-pub second_true : (s t : Bool) → (s && t) ≡ true → t ≡ true
-second_true true t e = e
-second_true false t e = cc
-
 pub same_object_is_one : (a b : HostObject) → same_object a b ≡ true → a ≡ b
 same_object_is_one a b e =
     let same_texts = pointwise nat_eq a.text b.text in
-    let parts = second_true (same_kind a.kind b.kind) (nat_eq a.user_data b.user_data && same_texts) e in
-    let kinds : a.kind ≡ b.kind = same_kind_is_one a.kind b.kind (first_true (same_kind a.kind b.kind) (nat_eq a.user_data b.user_data && same_texts) e) in
-    let user_data : a.user_data ≡ b.user_data = eqb-true a.user_data b.user_data (first_true (nat_eq a.user_data b.user_data) same_texts parts) in
-    let texts : a.text ≡ b.text = (bytes_decides a.text b.text).0 (second_true (nat_eq a.user_data b.user_data) same_texts parts) in
+    let same = and_parts (same_kind a.kind b.kind) (nat_eq a.user_data b.user_data && same_texts) e in
+    let others = and_parts (nat_eq a.user_data b.user_data) same_texts same.1 in
+    let kinds : a.kind ≡ b.kind = same_kind_is_one a.kind b.kind same.0 in
+    let user_data : a.user_data ≡ b.user_data = eqb-true a.user_data b.user_data others.0 in
+    let texts : a.text ≡ b.text = (bytes_decides a.text b.text).0 others.1 in
     λ i. record { kind = kinds i; user_data = user_data i; text = texts i }
 
 pub own_object_is_same : (a : HostObject) → same_object a a ≡ true

@@ -1,19 +1,12 @@
 -- Entries and tables that are found the same are the same.
 use Rattle.std.proofs.Common.{◌≡◌, ◌∙◌, ℕ, Bool, true, false, ◌&&◌, List, Option, None, Some, refl, sym, ap}
+use Rattle.std.proofs.lemmas.Bool.{and_parts}
 use Rattle.std.specs.Cmp.{IsEquivalence, decided}
 use Rattle.std.specs.Cmp.Lexicographic.{bytes_decides, lists_equiv, pointwise_decides}
 use Rattle.std.specs.Option.{option_eq}
 use Rattle.ob_plain.specs.Arguments.{same_path}
 use Rattle.ob_key.specs.declared.entry.KeyEntry.{KeyEntry}
 use Rattle.ob_key.specs.Entries.{same_entry, same_tables}
-
-pub first_true : (s t : Bool) → (s && t) ≡ true → s ≡ true
-first_true true t e = refl
-first_true false t e = e
-
-pub second_true : (s t : Bool) → (s && t) ≡ true → t ≡ true
-second_true true t e = e
-second_true false t e = cc
 
 same_targets : (a b : Option (List ℕ)) → option_eq same_path a b ≡ true → a ≡ b
 same_targets None None e = refl
@@ -27,8 +20,9 @@ own_target (Some a) = (bytes_decides a a).1 refl
 
 same_entries : (a b : KeyEntry) → same_entry a b ≡ true → a ≡ b
 same_entries a b e =
-    let paths : a.path ≡ b.path = (bytes_decides a.path b.path).0 (first_true (same_path a.path b.path) (option_eq same_path a.target b.target) e) in
-    let targets : a.target ≡ b.target = same_targets a.target b.target (second_true (same_path a.path b.path) (option_eq same_path a.target b.target) e) in
+    let same = and_parts (same_path a.path b.path) (option_eq same_path a.target b.target) e in
+    let paths : a.path ≡ b.path = (bytes_decides a.path b.path).0 same.0 in
+    let targets : a.target ≡ b.target = same_targets a.target b.target same.1 in
     λ i. record { path = paths i; target = targets i }
 
 own_entry : (a : KeyEntry) → same_entry a a ≡ true

@@ -4,14 +4,15 @@ ghost use Rattle.std.specs.Prelude.{◌≡◌, true, refl, drop, if◌then◌els
 ghost use Rattle.std.proofs.Common.{rules};
 ghost use Rattle.ob_model.specs.Names.{begins_with_separator};
 ghost use Rattle.ob_types.specs.Parsing.{answer_of};
-ghost use Rattle.ob_key.specs.Key.{key_procedures, IsIdle, behind_separator, link_answer};
+ghost use Rattle.ob_plain.specs.Handles.{IsIdle};
+ghost use Rattle.ob_key.specs.Key.{key_procedures, link_answer};
 ghost use Rattle.ob_key.specs.KeyLaws.{key_front, key_itself, key_parsed_idle, key_own_face, key_same_answers};
 ghost use Rattle.ob_key.specs.declared.key.KeyKind.TheVariants.{Key};
 
 use crate::{KeyFace, KeyTable, KeyTarget};
 use ob_base::Fault;
 use ob_names::{Component, first, is_profile_text, substitute};
-use ob_plain::is_readable;
+use ob_plain::{HandleCount, is_readable, without_separator};
 use ob_types::{ParseAnswer, Reason, Refusal, TypeSet};
 use std::alloc::{AllocError, Global};
 
@@ -20,13 +21,6 @@ use std::alloc::{AllocError, Global};
 pub enum KeyKind {
     /// A key.
     Key,
-}
-
-/// The part of a key that the procedures change. (this profile)
-#[derive(Debug, Drop)]
-pub struct KeyInner {
-    /// The handles that are open to it; at the greatest u32, that many or more.
-    pub handles: u32,
 }
 
 /// The set of keys. Its value holds nothing.
@@ -53,7 +47,7 @@ impl TypeSet for KeySet {
 
     type Face = KeyFace;
 
-    type Inner = KeyInner;
+    type Inner = HandleCount;
 
     ghost procedures = { key_procedures };
 
@@ -77,7 +71,7 @@ impl TypeSet for KeySet {
         a.path() == b.path() && a.table() == b.table()
     }
 
-    fn make(alloc: Global, _kind: KeyKind, args: &[u8]) -> Result<(KeyFace, KeyInner), Refusal> {
+    fn make(alloc: Global, _kind: KeyKind, args: &[u8]) -> Result<(KeyFace, HandleCount), Refusal> {
         if !is_readable(args) {
             return Err(Refusal::Code(1));
         }
@@ -85,18 +79,18 @@ impl TypeSet for KeySet {
         if !table.is_fit() {
             return Err(Refusal::Code(1));
         }
-        Ok((KeyFace::root(alloc, table)?, KeyInner { handles: 0 }))
+        Ok((KeyFace::root(alloc, table)?, HandleCount::new()))
     }
 
     fn parse(
         alloc: Global,
         face: &KeyFace,
         rest: &[u8],
-    ) -> Result<ParseAnswer<KeyFace, KeyInner>, AllocError> {
+    ) -> Result<ParseAnswer<KeyFace, HandleCount>, AllocError> {
         if rest.is_empty() {
             return Ok(ParseAnswer::Itself);
         }
-        let Component::One { name, rest: behind } = first(behind_separator(rest)) else {
+        let Component::One { name, rest: behind } = first(without_separator(rest)) else {
             return Ok(ParseAnswer::Refused(3));
         };
         let path = face.path_of(alloc, name)?;
@@ -109,20 +103,20 @@ impl TypeSet for KeySet {
         Ok(ParseAnswer::Front {
             used: rest.len() - behind.len(),
             next: face.at(path)?,
-            inner: KeyInner { handles: 0 },
+            inner: HandleCount::new(),
         })
     }
 
-    fn on_open(&mut self, inner: &mut KeyInner, _reason: Reason) -> Result<(), u16> {
-        inner.handles = inner.handles.saturating_add(1);
+    fn on_open(&mut self, handles: &mut HandleCount, _reason: Reason) -> Result<(), u16> {
+        handles.add_handle();
         Ok(())
     }
 
-    fn on_close(&mut self, inner: &mut KeyInner, _process_left: u32, system_left: u32) {
-        inner.handles = system_left;
+    fn on_close(&mut self, handles: &mut HandleCount, _process_left: u32, system_left: u32) {
+        handles.set_handles(system_left);
     }
 
-    fn on_delete(&mut self, _inner: KeyInner) {}
+    fn on_delete(&mut self, _handles: HandleCount) {}
 
     ghost refused_open = { λ set inner _ _ told. Prim.search rules };
 
@@ -152,7 +146,7 @@ fn through_link(
     alloc: Global,
     target: &KeyTarget,
     rest: &[u8],
-) -> Result<ParseAnswer<KeyFace, KeyInner>, AllocError>
+) -> Result<ParseAnswer<KeyFace, HandleCount>, AllocError>
     ensures { IfOk result (λ answer. answer_of answer ≡ link_answer target.now rest.now) }
 {
     if !is_profile_text(rest) {
@@ -163,11 +157,4 @@ fn through_link(
         Err(Fault::Refused(_)) => Ok(ParseAnswer::Refused(4)),
         Err(Fault::Memory) => Err(AllocError),
     }
-}
-
-// The rest of a name without one leading backslash.
-fn behind_separator(rest: &[u8]) -> &[u8]
-    ensures { result.now ≡ behind_separator rest.now }
-{
-    rest.strip_prefix(b"\\").unwrap_or(rest)
 }

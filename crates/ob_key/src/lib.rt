@@ -8,5 +8,5 @@ mod table;
 
 pub use entry::{KeyEntry, KeyTarget};
 pub use face::KeyFace;
-pub use key::{KeyInner, KeyKind, KeySet};
+pub use key::{KeyKind, KeySet};
 pub use table::KeyTable;

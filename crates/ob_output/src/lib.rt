@@ -21,6 +21,6 @@ pub use lines::{LINE_ROOM, push_counts_line, push_number, push_text, push_text_l
 pub use misfits::{EXPECTED_ROOM, push_expected, push_misfit_line};
 pub use reading::{SCRIPT_LIMIT, read_all, read_script};
 pub use short_line::{ShortLine, text_line};
-pub use status_lines::{push_status_front, push_status_line, push_text_front};
+pub use status_lines::push_status_front;
 pub use texts::{push_entry, push_printed};
 pub use writing::{Unwritten, write_out};

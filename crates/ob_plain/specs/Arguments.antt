@@ -1,10 +1,10 @@
--- Arguments of objects whose types parse: which can be read, and their pieces.
+-- Arguments of objects whose types parse: which can be read, and their pieces; and the paths that names lead to.
 --
 -- Source: this profile.
-use Rattle.std.specs.Prelude.{◌≡◌, ◌≢◌, ℕ, ◌<◌, ◌≤◌, Bool, ◌&&◌, ◌==◌, nat_eq, nat_le, List, [], ◌∷◌, length, slice_index}
+use Rattle.std.specs.Prelude.{◌≡◌, ◌≢◌, ℕ, ◌<◌, ◌≤◌, Bool, ◌&&◌, ◌==◌, if◌then◌else◌, nat_eq, nat_le, List, [], ◌∷◌, drop, length, slice_index}
 use Rattle.std.specs.List.{list_any, slice_split}
 use Rattle.std.specs.Cmp.Lexicographic.{pointwise}
-use Rattle.ob_model.specs.Names.{is_profile_text}
+use Rattle.ob_model.specs.Names.{begins_with_separator, is_profile_text}
 
 -- the most bytes of arguments
 abbrev pub longest_arguments : ℕ
@@ -26,6 +26,10 @@ pieces (b ∷ bs) = slice_split (λ byte. byte == semicolon) (b ∷ bs)
 -- two paths are the same, byte by byte
 abbrev pub same_path : List ℕ → List ℕ → Bool
 same_path a b = pointwise nat_eq a b
+
+-- the rest of a name without one leading backslash
+abbrev pub without_separator : List ℕ → List ℕ
+without_separator rest = if begins_with_separator rest then drop 1 rest else rest
 
 -- a text has the byte
 abbrev pub has_byte : ℕ → List ℕ → Bool

@@ -1,4 +1,5 @@
 pub mod Limits
+pub mod Handles
 pub mod Plain
 pub mod Counting
 pub mod Calls

@@ -1,6 +1,7 @@
 -- The procedures of the plain types: events, mutants and sections.
-use Rattle.std.specs.Prelude.{◌≡◌, ℕ, ◌+◌, ◌^◌, ◌-◌, Bool, leb, true, false, cond, List, Option, None, Some, codes, min}
+use Rattle.std.specs.Prelude.{ℕ, Bool, leb, true, false, cond, List, Option, None, Some, codes}
 use Rattle.ob_model.specs.Procedures.{Procedures, Refused}
+use Rattle.ob_plain.specs.Handles as handles
 use Rattle.ob_plain.specs.Limits.{limit_of, refuses_arguments}
 use Rattle.ob_plain.specs.declared.plain.Plain.{Plain}
 use Rattle.ob_plain.specs.declared.plain.PlainKind.{PlainKind}
@@ -29,13 +30,13 @@ abbrev pub unless_told : {A : Type 0} → Option ℕ → A → A → A
 unless_told None kept changed = changed
 unless_told (Some _) kept changed = kept
 
--- one handle more, stopping at the greatest u32
+-- one handle more
 abbrev pub one_more : PlainInner → PlainInner
-one_more inner = record inner { handles = min (inner.handles + 1) (2 ^ 32 - 1) }
+one_more inner = record inner { handles = handles.one_more inner.handles }
 
 -- no handle is open
 abbrev pub IsIdle : PlainInner → Type 0
-IsIdle inner = inner.handles ≡ 0
+IsIdle inner = handles.IsIdle inner.handles
 
 -- what each procedure means
 abbrev pub plain_procedures : Procedures PlainKind Plain PlainFace PlainInner
@@ -46,7 +47,7 @@ plain_procedures = record {
   parses = λ _. false;
   same_face = λ a b. same_plain_kind a.kind b.kind;
   refuses_to_make = λ _ args. refuses_arguments args;
-  made = λ kind args. (record { kind = kind }, record { handles = 0; limit = limit_of args });
+  made = λ kind args. (record { kind = kind }, record { handles = handles.unopened; limit = limit_of args });
   parsed = λ _ _. Refused 3;
   refuses_to_open = λ _ inner _. refuses_handle inner;
   opened = λ set inner _. (set, unless_told (refuses_handle inner) inner (one_more inner));

@@ -1,6 +1,5 @@
 -- A set that records the calls of the set below it.
 use Rattle.std.specs.Prelude.{ℕ, ◌==◌, if◌then◌else◌, Option}
-use Rattle.ob_model.specs.Procedures as model
 use Rattle.ob_model.specs.Procedures.{Procedures, ParseAnswer, Itself, Front, Reparse, Refused}
 use Rattle.ob_model.specs.declared.terms.Reason.{Reason}
 use Rattle.ob_plain.specs.Plain.{unless_told}

@@ -6,6 +6,7 @@
 
 mod calls;
 mod counting;
+mod handles;
 mod limit;
 mod path;
 mod pieces;
@@ -15,8 +16,9 @@ mod refusing;
 
 pub use calls::{Call, CallKind, first_calls_are_kept};
 pub use counting::{Counting, accepted_opens_count};
+pub use handles::HandleCount;
 pub use limit::{limit_of, limits_are_decimal};
-pub use path::Path;
+pub use path::{Path, without_separator};
 pub use pieces::{LONGEST_ARGUMENTS, cut, is_readable, split};
 pub use plain::{Plain, PlainFace, PlainInner, PlainKind};
 pub use recorder::{Recorded, Recorder, accepted_opens_are_noted};

@@ -1,8 +1,9 @@
-//! Paths.
+//! Paths, and the rest of a name that names one.
 
 ghost use Rattle.std.specs.Prelude.{◌≡◌, IfOk};
 ghost use Rattle.std.specs.Cmp.{partial_equiv_from_equiv};
 ghost use Rattle.std.specs.Cmp.Lexicographic.{nat_list_eq_equiv};
+ghost use Rattle.ob_plain.specs.Arguments as arguments;
 ghost use Rattle.ob_plain.specs.Arguments.{same_path};
 
 use std::alloc::{AllocError, Global};
@@ -61,4 +62,11 @@ impl PartialEq for Path {
 
 impl Eq for Path {
     ghost laws = { nat_list_eq_equiv };
+}
+
+/// The rest of a name without one leading backslash. (this profile)
+pub fn without_separator(rest: &[u8]) -> &[u8]
+    ensures { result.now ≡ arguments.without_separator rest.now }
+{
+    rest.strip_prefix(b"\\").unwrap_or(rest)
 }

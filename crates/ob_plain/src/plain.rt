@@ -5,7 +5,7 @@ ghost use Rattle.std.proofs.Common.{ap, rules};
 ghost use Rattle.ob_plain.specs.Plain.{plain_procedures, same_plain_kind, IsIdle, unless_told, one_more};
 ghost use Rattle.ob_plain.specs.declared.plain.PlainKind.TheVariants.{Event, Mutant, Section};
 
-use crate::limit_of;
+use crate::{HandleCount, limit_of};
 use ob_types::{ParseAnswer, Reason, Refusal, TypeSet};
 use std::alloc::{AllocError, Global};
 
@@ -30,8 +30,8 @@ pub struct PlainFace {
 /// The part of a plain object that the procedures change. (this profile)
 #[derive(Debug, Drop)]
 pub struct PlainInner {
-    /// The handles that are open to it; at the greatest u32, that many or more.
-    pub handles: u32,
+    /// The handles that are open to it.
+    pub handles: HandleCount,
     /// The greatest number of handles that may be open to it, 1 to 65,535, where there is one.
     pub limit: Option<u16>,
 }
@@ -93,21 +93,22 @@ impl TypeSet for Plain {
         if limit.is_none() && !args.is_empty() {
             return Err(Refusal::Code(1));
         }
-        Ok((PlainFace { kind }, PlainInner { handles: 0, limit }))
+        let handles = HandleCount::new();
+        Ok((PlainFace { kind }, PlainInner { handles, limit }))
     }
 
     fn on_open(&mut self, inner: &mut PlainInner, _reason: Reason) -> Result<(), u16> {
         if let Some(limit) = inner.limit {
-            if inner.handles >= limit as u32 {
+            if inner.handles.number() >= limit as u32 {
                 return Err(2);
             }
         }
-        inner.handles = inner.handles.saturating_add(1);
+        inner.handles.add_handle();
         Ok(())
     }
 
     fn on_close(&mut self, inner: &mut PlainInner, _process_left: u32, system_left: u32) {
-        inner.handles = system_left;
+        inner.handles.set_handles(system_left);
     }
 
     fn on_delete(&mut self, _inner: PlainInner) {}

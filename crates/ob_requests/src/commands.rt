@@ -1,10 +1,11 @@
-//! The command that a request spells.
+//! The command that a request spells, with the variables that its reply changes.
 
 ghost use Rattle.std.specs.Prelude.{◌≡◌, ◌+◌, min, IfOk, OnErr};
 ghost use Rattle.ob_parts.specs.Parts.{offset_value, text_of, name_seen, place_seen, handle_seen};
+ghost use Rattle.ob_lines.specs.Changes.{change_of, change_seen};
 ghost use Rattle.ob_lines.specs.Grammar.{HasPlaceText, HasTexts, request_seen};
 ghost use Rattle.ob_parts.specs.Text.{IsText, Spells};
-ghost use Rattle.ob_requests.specs.Room.{Grows};
+ghost use Rattle.ob_requests.specs.Room.{Grows, HasRoomFor};
 ghost use Rattle.ob_requests.specs.Tables.{variables_in};
 ghost use Rattle.ob_requests.specs.Commands.{greatest_named, kind_meant, handle_meant, root_of, IsCommand, IsCreateDirectory, IsCreateShadowed, IsCreateLink, IsCreateObject, IsOpenDirectory, IsOpenLink, IsOpenObject, IsPlace};
 
@@ -13,117 +14,194 @@ use either::Either;
 use ob_base::{Handle, Proc};
 use ob_device::DeviceKind;
 use ob_key::KeyKind;
-use ob_lines::{HandleForm, KindForm, NameForm, Offset, PlaceForm, Request, decode, offset_value};
+use ob_lines::{Change, HandleForm, KindForm, NameForm, Offset, PlaceForm, Request, decode, offset_value};
 use ob_model::{Bytes, Command, Place};
 use ob_plain::PlainKind;
 use ob_standard::StandardKind;
 use std::alloc::AllocError;
 
-/// A process that asks for something, and the variables of the script. (this profile)
+/// The command that a request spells, and the variables that its reply changes. (this profile)
+pub type SpelledCommand<'a> = (Command<StandardKind>, Change<&'a [u8]>);
+
+// A process that asks for something, and the variables of the script.
 #[derive(Clone, Copy)]
-pub struct Asker<'a> {
-    /// The variables of the script.
-    pub variables: &'a Variables,
-    /// The process.
-    pub process: Proc,
+struct Asker<'a> {
+    // The variables of the script.
+    variables: &'a Variables,
+    // The process.
+    process: Proc,
 }
 
-/// The command that a request spells, or out of memory. (this profile)
-pub type SpelledCommand = Result<Command<StandardKind>, AllocError>;
+// A command, or out of memory.
+type CommandOrFault = Result<Command<StandardKind>, AllocError>;
 
-/// The command that a request of a process spells, with the variables of the script. The only fault is out of memory, for
-/// the texts of a create or an open. Source: this profile.
-pub fn command_of(asker: &Asker<'_>, request: &Request<&[u8]>) -> SpelledCommand
+/// The command that a request of a process spells, with the variables of the script, and room for what its reply changes of them: so no reply is
+/// lost for lack of memory. No variable changes. The only fault is out of memory: for the texts of a create or an open, where a variable is set, or
+/// the context of its page. Source: this profile.
+pub fn command_of<'a>(
+    variables: &mut Variables,
+    process: Proc,
+    request: &Request<&'a [u8]>,
+) -> Result<SpelledCommand<'a>, AllocError>
     requires texts { HasTexts (request_seen request.now) }
-    ensures command { IfOk result (IsCommand (request_seen request.now)
-        (variables_in asker.now.variables.now) asker.now.process) }
+    ensures command { IfOk result (λ spelled. IsCommand (request_seen request.now)
+        (variables_in variables.old) process (spelled.0)) }
+    ensures change { IfOk result (λ spelled. change_seen (spelled.1)
+        ≡ change_of (request_seen request.now)) }
+    ensures room { IfOk result (λ spelled. HasRoomFor variables.new process (change_seen (spelled.1))) }
+    ensures same { variables_in variables.new ≡ variables_in variables.old }
+    ensures grows { OnErr result (Grows (request_seen request.now)) }
+{
+    let asker = Asker { variables, process };
+    let (command, change) = spelled_by(&asker, request)?;
+    variables.make_room(process, change)?;
+    Ok((command, change))
+}
+
+// The command that a request spells, and the variables that its reply changes. A `dup` with inheritance and one without change the same.
+fn spelled_by<'a>(
+    asker: &Asker<'_>,
+    request: &Request<&'a [u8]>,
+) -> Result<SpelledCommand<'a>, AllocError>
+    requires texts { HasTexts (request_seen request.now) }
+    ensures command { IfOk result (λ spelled. IsCommand (request_seen request.now)
+        (variables_in asker.now.variables.now) asker.now.process (spelled.0)) }
+    ensures change { IfOk result (λ spelled. change_seen (spelled.1)
+        ≡ change_of (request_seen request.now)) }
     ensures grows { OnErr result (Grows (request_seen request.now)) }
 {
     match *request {
-        Request::CreateDirectory { place, attrs, .. } => create_directory(asker, place, attrs),
+        Request::CreateDirectory {
+            place,
+            attrs,
+            variable,
+        } => {
+            let command = create_directory(asker, place, attrs)?;
+            Ok((command, Change::Sets(variable)))
+        }
         Request::CreateShadowed {
             shadow,
             place,
             attrs,
-            ..
-        } => create_shadowed(asker, shadow, place, attrs),
+            variable,
+        } => {
+            let command = create_shadowed(asker, shadow, place, attrs)?;
+            Ok((command, Change::Sets(variable)))
+        }
         Request::CreateLink {
             place,
             attrs,
             target,
-            ..
-        } => create_link(asker, place, attrs, target),
+            variable,
+        } => {
+            let command = create_link(asker, place, attrs, target)?;
+            Ok((command, Change::Sets(variable)))
+        }
         Request::CreateObject {
             kind,
             place,
             attrs,
             args,
-            ..
-        } => create_object(asker, kind, place, attrs, args),
-        Request::OpenDirectory { name, attrs, .. } => open_directory(asker, name, attrs),
-        Request::OpenLink { name, attrs, .. } => open_link(asker, name, attrs),
+            variable,
+        } => {
+            let command = create_object(asker, kind, place, attrs, args)?;
+            Ok((command, Change::Sets(variable)))
+        }
+        Request::OpenDirectory {
+            name,
+            attrs,
+            variable,
+        } => {
+            let command = open_directory(asker, name, attrs)?;
+            Ok((command, Change::Sets(variable)))
+        }
+        Request::OpenLink {
+            name,
+            attrs,
+            variable,
+        } => {
+            let command = open_link(asker, name, attrs)?;
+            Ok((command, Change::Sets(variable)))
+        }
         Request::OpenObject {
             want,
             name,
             attrs,
-            ..
-        } => open_object(asker, want, name, attrs),
+            variable,
+        } => {
+            let command = open_object(asker, want, name, attrs)?;
+            Ok((command, Change::Sets(variable)))
+        }
         Request::Close { handle } => {
+            let change = Change::GivesUp(handle.variable);
             let handle = handle_meant(asker, handle);
-            Ok(Command::Close { handle })
+            Ok((Command::Close { handle }, change))
         }
         Request::QueryLink { handle } => {
             let handle = handle_meant(asker, handle);
-            Ok(Command::QueryLink { handle })
+            Ok((Command::QueryLink { handle }, Change::Nothing))
         }
         Request::QueryName { handle } => {
             let handle = handle_meant(asker, handle);
-            Ok(Command::QueryName { handle })
+            Ok((Command::QueryName { handle }, Change::Nothing))
         }
         Request::QueryDirectory { handle, room, mode } => {
+            let change = Change::TurnsPage(handle.variable);
             let context = asker.variables.context_of(asker.process, handle.variable);
             let handle = handle_meant(asker, handle);
-            Ok(Command::QueryDirectory {
+            let command = Command::QueryDirectory {
                 handle,
                 context,
                 room,
                 single: mode.is_single(),
                 restart: mode.is_first(),
-            })
+            };
+            Ok((command, change))
         }
         Request::Duplicate {
             handle,
             to,
             inherit,
-            ..
+            variable,
         } => {
+            let change = Change::SetsFor {
+                process: to,
+                variable,
+            };
             let handle = handle_meant(asker, handle);
             let to = asker.variables.process_of(to);
-            Ok(Command::Duplicate {
+            let command = Command::Duplicate {
                 handle,
                 to,
                 inherit,
-            })
+            };
+            Ok((command, change))
         }
         Request::MakeTemporary { handle } => {
             let handle = handle_meant(asker, handle);
-            Ok(Command::MakeTemporary { handle })
+            Ok((Command::MakeTemporary { handle }, Change::Nothing))
         }
         Request::MakePermanent { handle } => {
             let handle = handle_meant(asker, handle);
-            Ok(Command::MakePermanent { handle })
+            Ok((Command::MakePermanent { handle }, Change::Nothing))
         }
         Request::SetDeviceMap { handle } => {
             let handle = handle_meant(asker, handle);
-            Ok(Command::SetDeviceMap { handle })
+            Ok((Command::SetDeviceMap { handle }, Change::Nothing))
         }
-        Request::NewProcess { inherit, .. } => Ok(Command::NewProcess { inherit }),
-        Request::ExitProcess => Ok(Command::ExitProcess),
+        Request::NewProcess { inherit, child } => {
+            let change = Change::SetsProcess {
+                process: child,
+                inherit,
+            };
+            Ok((Command::NewProcess { inherit }, change))
+        }
+        Request::ExitProcess => Ok((Command::ExitProcess, Change::GivesAllUp)),
     }
 }
 
 // The create of a directory.
-fn create_directory(asker: &Asker<'_>, place: PlaceForm<&[u8]>, attrs: u32) -> SpelledCommand
+fn create_directory(asker: &Asker<'_>, place: PlaceForm<&[u8]>, attrs: u32) -> CommandOrFault
     requires { HasPlaceText (place_seen place) }
     ensures { IfOk result (IsCreateDirectory (place_seen place.entry) attrs
         ((variables_in asker.now.variables.now).values asker.now.process)) }
@@ -138,7 +216,7 @@ fn create_shadowed(
     shadow: HandleForm<&[u8]>,
     place: PlaceForm<&[u8]>,
     attrs: u32,
-) -> SpelledCommand
+) -> CommandOrFault
     requires { HasPlaceText (place_seen place) }
     ensures { IfOk result (IsCreateShadowed (handle_seen shadow.entry) (place_seen place.entry) attrs
         ((variables_in asker.now.variables.now).values asker.now.process)) }
@@ -158,7 +236,7 @@ fn create_link(
     place: PlaceForm<&[u8]>,
     attrs: u32,
     target: &[u8],
-) -> SpelledCommand
+) -> CommandOrFault
     requires place { HasPlaceText (place_seen place) }
     requires target { IsText target.now }
     ensures { IfOk result (IsCreateLink (place_seen place.entry) attrs target.now
@@ -180,7 +258,7 @@ fn create_object(
     place: PlaceForm<&[u8]>,
     attrs: u32,
     args: &[u8],
-) -> SpelledCommand
+) -> CommandOrFault
     requires place { HasPlaceText (place_seen place) }
     requires args { IsText args.now }
     ensures { IfOk result (IsCreateObject kind (place_seen place.entry) attrs args.now
@@ -198,7 +276,7 @@ fn create_object(
 }
 
 // The open of a directory.
-fn open_directory(asker: &Asker<'_>, name: NameForm<&[u8]>, attrs: u32) -> SpelledCommand
+fn open_directory(asker: &Asker<'_>, name: NameForm<&[u8]>, attrs: u32) -> CommandOrFault
     requires { IsText (text_of (name_seen name)) }
     ensures { IfOk result (IsOpenDirectory (name_seen name.entry) attrs
         ((variables_in asker.now.variables.now).values asker.now.process)) }
@@ -209,7 +287,7 @@ fn open_directory(asker: &Asker<'_>, name: NameForm<&[u8]>, attrs: u32) -> Spell
 }
 
 // The open of a symbolic link.
-fn open_link(asker: &Asker<'_>, name: NameForm<&[u8]>, attrs: u32) -> SpelledCommand
+fn open_link(asker: &Asker<'_>, name: NameForm<&[u8]>, attrs: u32) -> CommandOrFault
     requires { IsText (text_of (name_seen name)) }
     ensures { IfOk result (IsOpenLink (name_seen name.entry) attrs
         ((variables_in asker.now.variables.now).values asker.now.process)) }
@@ -225,7 +303,7 @@ fn open_object(
     want: Option<KindForm>,
     name: NameForm<&[u8]>,
     attrs: u32,
-) -> SpelledCommand
+) -> CommandOrFault
     requires { IsText (text_of (name_seen name)) }
     ensures { IfOk result (IsOpenObject want (name_seen name.entry) attrs
         ((variables_in asker.now.variables.now).values asker.now.process)) }

@@ -11,7 +11,7 @@ mod variable_tables;
 mod variables;
 
 pub use changes::given_handle;
-pub use commands::{Asker, SpelledCommand, command_of};
+pub use commands::{SpelledCommand, command_of};
 pub use table::{Table, keep};
 pub use variable::Variable;
 pub use variable_name::VariableName;

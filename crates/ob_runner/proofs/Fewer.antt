@@ -1,10 +1,12 @@
 -- An open that is resumed and waits again has fewer reparses left: a text that is looked up again takes one, and a
 -- lookup hands on no more than it has.
-use Rattle.std.proofs.Common.{◌≡◌, ℕ, zero, suc, ◌<◌, ◌==◌, Bool, true, false, ◌||◌, not, List, [], ◌∷◌, ◌++◌, length, All, Ok, Err, sym, ap, ◌∙◌, subst, refl}
+use Rattle.std.proofs.Common.{◌≡◌, ℕ, zero, suc, ◌<◌, ◌==◌, Bool, true, false, not, List, [], ◌∷◌, ◌++◌, length, All, Ok, Err, sym, ap, ◌∙◌, subst, refl}
 use Rattle.std.specs.Prelude.{nat_lt, Option, None, Some, MatchOption, MatchBool}
 use Rattle.std.specs.List.{list_any}
 use Rattle.std.specs.Option.{option_map, option_map_or, option_and_then}
 use Rattle.std.proofs.lemmas.List.Elements.{All-filter}
+use Rattle.std.proofs.lemmas.List.Folds.{list_any-from_Any}
+use Rattle.std.proofs.lemmas.List.Quantifiers.{Any-push}
 use Rattle.ob_base.specs.declared.status.Status.{Status}
 use Rattle.ob_base.specs.declared.status.Status.TheVariants.{ObjectPathSyntaxBad, ObjectTypeMismatch, NameTooLong, Success, InsufficientResources, NoMemory, TypeRefused, ProcessGone, InvalidHandle}
 use Rattle.ob_model.specs.declared.command.Command.{Command}
@@ -56,15 +58,6 @@ again_usable {K} {T} {F} {I} g s p mode (suc n) text look h = go (nat_lt longest
     go true h = subst (IsUsableEnd g s mode) (sym h) tt
     go false h = usable_end g s p mode n None text look h
 
--- what passes at the end of a list passes somewhere
-any_last : {X : Type 0} (f : X → Bool) (xs : List X) (x : X) → f x ≡ true → list_any f (xs ++ x ∷ []) ≡ true
-any_last f [] x e = ap (λ b. b || false) e
-any_last f (y ∷ xs) x e = go (f y) (any_last f xs x e)
-  where
-    go : (b : Bool) → list_any f (xs ++ x ∷ []) ≡ true → (b || list_any f (xs ++ x ∷ [])) ≡ true
-    go true rest = refl
-    go false rest = rest
-
 -- the reparses that are left to an open that waits under a ticket, and none where none does
 abbrev pub left_to : {K T F I : Type 0} → State K T F I → ℕ → ℕ
 left_to s ticket = option_map_or (λ x. x.left) (pending_of s ticket) 0
@@ -98,8 +91,11 @@ module _ {K T F I : Type 0} (g : Procedures K T F I) (t : State K T F I) (m : �
       w : State K T F I
       w = with_pending u p attrs wanted o rest n
 
+      pinned : list_any (λ (x : PendingOpen K). x.object == o) w.pending ≡ true
+      pinned = list_any-from_Any (λ x. x.object == o) w.pending (Any-push (λ x. (x.object == o) ≡ true) u.pending new (eq-eqb o o refl))
+
       stays : object_of (settle g w) o ≡ object_of u o
-      stays = object_of-settle g w o (alive_from_pin w o (any_last (λ (x : PendingOpen K). x.object == o) u.pending new (eq-eqb o o refl)))
+      stays = object_of-settle g w o (alive_from_pin w o pinned)
 
       kept : IsParsing g (settle g w) o
       kept = subst (λ (x : Option (Object F I)). MatchOption (option_and_then face_in (option_map (λ y. y.body) x)) ⊥ (λ face. g.parses (g.kind_of face) ≡ true)) (sym stays) parsing

@@ -1,16 +1,17 @@
--- Pages that are gathered part by part: their entries, and the names of types as they are.
+-- Replies that are gathered part by part: texts between quotes, the entries of pages, and the names of types as they are.
 use Rattle.std.proofs.Common.{◌≡◌, ◌-◌, ◌+◌, ◌<◌, ℕ, codes, List, ◌++◌, Option, length, take, drop, get_or, refl, ap, sym, subst, ◌∙◌, append_assoc, take-append-drop}
 use Rattle.std.proofs.lemmas.List.{take_rest, drop_more}
 use Rattle.std.specs.Fmt.{decimal}
-use Rattle.ob_base.specs.declared.status.Status.{Status}
 use Rattle.ob_model.specs.declared.entries.Listed.{Listed}
-use Rattle.ob_output.specs.Printed.{output_line, status_text, printed_bytes, entry_text, entries_text}
+use Rattle.ob_model.specs.declared.reply.Given.TheVariants.{Text}
+use Rattle.ob_model.specs.declared.reply.Reply.{Reply}
+use Rattle.ob_output.specs.Printed.{output_line, status_text, printed_bytes, entry_text, entries_text, given_text, reply_text}
 use Rattle.ob_output.specs.Gathering.{Gathers}
 use Rattle.ob_output.specs.Writing.{AppendsFront}
 use Rattle.ob_output.proofs.Gathered.{GathersUpTo, gathers_more, gathers_front, front_gathers, up_to_nothing}
 
 -- a front of what was left is gathered
-left_more : {old mid new : Option (List ℕ)} {had between has bytes : List ℕ} (part rest : List ℕ) → GathersUpTo old mid had bytes (part ++ rest) between
+pub left_more : {old mid new : Option (List ℕ)} {had between has bytes : List ℕ} (part rest : List ℕ) → GathersUpTo old mid had bytes (part ++ rest) between
     → Gathers mid new between part has → GathersUpTo old new had bytes rest has
 left_more {old} {mid} {new} {had} {between} {has} {bytes} part rest so_far one = record {
   front = so_far.front ++ part;
@@ -35,7 +36,7 @@ left_front {old} {mid} {new} {had} {between} {bytes} rest part e so_far one =
     subst P (sym so_far.joined) (gathers_front old mid new had between so_far.front rest so_far.gathered (subst Q e one))
 
 -- a write failed in a front of what was left
-left_first : {old mid new : Option (List ℕ)} {had between bytes : List ℕ} (part rest : List ℕ) → GathersUpTo old mid had bytes (part ++ rest) between
+pub left_first : {old mid new : Option (List ℕ)} {had between bytes : List ℕ} (part rest : List ℕ) → GathersUpTo old mid had bytes (part ++ rest) between
     → AppendsFront mid new (between ++ part) → AppendsFront old new (had ++ bytes)
 left_first {old} {mid} {new} {had} {between} {bytes} part rest so_far one =
     left_front (part ++ rest) (part ++ rest) refl so_far (front_gathers mid new between part rest one)
@@ -116,45 +117,24 @@ entry_front {old} {mid} {new} {had} {between} es i e l is so_far one =
     let Q : List ℕ → Type 0 = λ x. GathersUpTo old mid had (entries_text es) x between in
     left_first (entry_text e) (entries_text (drop (i + 1) es)) (subst Q (entries_cut es i e l is) so_far) one
 
--- the line that reports a page, and its part in front of the entries
-abbrev pub page_line : ℕ → Status → List Listed → List ℕ
-page_line number status es = output_line number (status_text status ++ entries_text es)
+-- a text that is given, at its first quote
+pub quoted_begins : (old : Option (List ℕ)) (had text : List ℕ) → GathersUpTo old old had (given_text (Text text)) (codes " \"" ++ (printed_bytes text ++ codes "\"")) had
+quoted_begins old had text = up_to_nothing old had (given_text (Text text))
 
-abbrev page_front : ℕ → Status → List ℕ
-page_front number status = decimal number ++ codes ": " ++ status_text status
+-- the line that reports a reply, and its part in front of what is given
+abbrev pub reply_line : ℕ → Reply → List ℕ
+reply_line number reply = output_line number (reply_text reply)
 
-page_is : (number : ℕ) (status : Status) (es : List Listed) → page_line number status es ≡ page_front number status ++ (entries_text es ++ codes "\n")
-page_is number status es = simp append_assoc
+abbrev reply_front : ℕ → Reply → List ℕ
+reply_front number reply = decimal number ++ codes ": " ++ status_text reply.status
 
--- at its front
-page_begins : (old : Option (List ℕ)) (had : List ℕ) (number : ℕ) (status : Status) (es : List Listed)
-    → GathersUpTo old old had (page_line number status es) (page_front number status ++ (entries_text es ++ codes "\n")) had
-page_begins old had number status es =
-    subst (λ x. GathersUpTo old old had (page_line number status es) x had) (page_is number status es) (up_to_nothing old had (page_line number status es))
+reply_is : (number : ℕ) (reply : Reply) → reply_line number reply ≡ reply_front number reply ++ (given_text reply.given ++ codes "\n")
+reply_is number reply = simp append_assoc
 
-pub page_first : {old new : Option (List ℕ)} (had : List ℕ) (number : ℕ) (status : Status) (es : List Listed) (part : List ℕ) → part ≡ page_front number status
-    → AppendsFront old new (had ++ part) → AppendsFront old new (had ++ page_line number status es)
-page_first {old} {new} had number status es part is one =
-    let Q : List ℕ → Type 0 = λ x. AppendsFront old new (had ++ x) in
-    left_first (page_front number status) (entries_text es ++ codes "\n") (page_begins old had number status es) (subst Q is one)
-
-pub page_more : {old new : Option (List ℕ)} {had has : List ℕ} (number : ℕ) (status : Status) (es : List Listed) (part : List ℕ) → part ≡ page_front number status
-    → Gathers old new had part has → GathersUpTo old new had (page_line number status es) (entries_text es ++ codes "\n") has
-page_more {old} {new} {had} {has} number status es part is one =
+-- at what is given
+pub reply_begun : {old new : Option (List ℕ)} {had has : List ℕ} (number : ℕ) (reply : Reply) (part : List ℕ) → part ≡ reply_front number reply
+    → Gathers old new had part has → GathersUpTo old new had (reply_line number reply) (given_text reply.given ++ codes "\n") has
+reply_begun {old} {new} {had} {has} number reply part is one =
+    let P : List ℕ → Type 0 = λ x. GathersUpTo old old had (reply_line number reply) x had in
     let Q : List ℕ → Type 0 = λ x. Gathers old new had x has in
-    left_more (page_front number status) (entries_text es ++ codes "\n") (page_begins old had number status es) (subst Q is one)
-
--- at its entries
-pub listed_front : {old mid new : Option (List ℕ)} {had between : List ℕ} (number : ℕ) (status : Status) (es items : List Listed) → items ≡ es
-    → GathersUpTo old mid had (page_line number status es) (entries_text es ++ codes "\n") between → AppendsFront mid new (between ++ entries_text items)
-    → AppendsFront old new (had ++ page_line number status es)
-listed_front {old} {mid} {new} {had} {between} number status es items is so_far one =
-    let Q : List Listed → Type 0 = λ x. AppendsFront mid new (between ++ entries_text x) in
-    left_first (entries_text es) (codes "\n") so_far (subst Q is one)
-
-pub listed_more : {old mid new : Option (List ℕ)} {had between has : List ℕ} (number : ℕ) (status : Status) (es items : List Listed) → items ≡ es
-    → GathersUpTo old mid had (page_line number status es) (entries_text es ++ codes "\n") between → Gathers mid new between (entries_text items) has
-    → GathersUpTo old new had (page_line number status es) (codes "\n") has
-listed_more {old} {mid} {new} {had} {between} {has} number status es items is so_far one =
-    let Q : List Listed → Type 0 = λ x. Gathers mid new between (entries_text x) has in
-    left_more (entries_text es) (codes "\n") so_far (subst Q is one)
+    left_more (reply_front number reply) (given_text reply.given ++ codes "\n") (subst P (reply_is number reply) (up_to_nothing old had (reply_line number reply))) (subst Q is one)

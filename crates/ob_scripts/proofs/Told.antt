@@ -1,10 +1,7 @@
 -- Texts that are gathered part by part, as they are printed.
-use Rattle.std.proofs.Common.{◌≡◌, ◌-◌, ℕ, codes, List, [], ◌++◌, Option, length, take, drop, ap, sym, subst, ◌∙◌, append_assoc, append-nil, take-append-drop}
+use Rattle.std.proofs.Common.{◌≡◌, ◌-◌, ℕ, List, [], ◌++◌, Option, length, take, drop, ap, sym, subst, ◌∙◌, append_assoc, append-nil, take-append-drop}
 use Rattle.std.proofs.lemmas.List.{take_rest}
-use Rattle.std.specs.Fmt.{decimal}
-use Rattle.ob_base.specs.declared.status.Status.{Status}
-use Rattle.ob_model.specs.declared.reply.Given.TheVariants.{Text}
-use Rattle.ob_output.specs.Printed.{output_line, status_text, printed_bytes, given_text}
+use Rattle.ob_output.specs.Printed.{printed_bytes}
 use Rattle.ob_output.proofs.Printed.{printed_append}
 use Rattle.ob_output.specs.Gathering.{Gathers}
 use Rattle.ob_output.specs.Writing.{AppendsFront}
@@ -44,50 +41,3 @@ pub parts_all : (old new : Option (List ℕ)) (had has text rest : List ℕ) →
 parts_all old new had has text rest so_far none =
     let P : List ℕ → Type 0 = λ x. Gathers old new had x has in
     subst P (sym (so_far.joined ∙ (ap (λ l. so_far.front ++ printed_bytes l) none ∙ append-nil so_far.front))) so_far.gathered
-
--- the line that reports a text, and its part in front of the text
-abbrev told_line : ℕ → Status → List ℕ → List ℕ
-told_line number status text = output_line number (status_text status ++ given_text (Text text))
-
-abbrev told_front : ℕ → Status → List ℕ
-told_front number status = decimal number ++ codes ": " ++ status_text status ++ codes " \""
-
-told_is : (number : ℕ) (status : Status) (text : List ℕ) → told_line number status text ≡ told_front number status ++ (printed_bytes text ++ codes "\"\n")
-told_is number status text = simp append_assoc
-
--- its front, its text and its end
-pub told_whole : (old mid later new : Option (List ℕ)) (had x y has : List ℕ) (number : ℕ) (status : Status) (text part : List ℕ) → part ≡ told_front number status
-    → Gathers old mid had part x → Gathers mid later x (printed_bytes text) y → Gathers later new y (codes "\"\n") has
-    → Gathers old new had (told_line number status text) has
-told_whole old mid later new had x y has number status text part e a b c =
-    let P : List ℕ → Type 0 = λ l. Gathers old new had l has in
-    let Q : List ℕ → Type 0 = λ l. Gathers old mid had l x in
-    subst P (sym (told_is number status text))
-    (gathers_more old mid new had x has (told_front number status) (printed_bytes text ++ codes "\"\n") (subst Q e a)
-    (gathers_more mid later new x y has (printed_bytes text) (codes "\"\n") b c))
-
--- a beginning of its front, of its text and of its end
-pub told_first : (old new : Option (List ℕ)) (had : List ℕ) (number : ℕ) (status : Status) (text part : List ℕ) → part ≡ told_front number status
-    → AppendsFront old new (had ++ part) → AppendsFront old new (had ++ told_line number status text)
-told_first old new had number status text part e f =
-    let P : List ℕ → Type 0 = λ l. AppendsFront old new (had ++ l) in
-    subst P (sym (told_is number status text)) (front_gathers old new had (told_front number status) (printed_bytes text ++ codes "\"\n") (subst P e f))
-
-pub told_second : (old mid new : Option (List ℕ)) (had x : List ℕ) (number : ℕ) (status : Status) (text part : List ℕ) → part ≡ told_front number status
-    → Gathers old mid had part x → AppendsFront mid new (x ++ printed_bytes text) → AppendsFront old new (had ++ told_line number status text)
-told_second old mid new had x number status text part e a f =
-    let P : List ℕ → Type 0 = λ l. AppendsFront old new (had ++ l) in
-    let Q : List ℕ → Type 0 = λ l. Gathers old mid had l x in
-    subst P (sym (told_is number status text))
-    (gathers_front old mid new had x (told_front number status) (printed_bytes text ++ codes "\"\n") (subst Q e a)
-    (front_gathers mid new x (printed_bytes text) (codes "\"\n") f))
-
-pub told_third : (old mid later new : Option (List ℕ)) (had x y : List ℕ) (number : ℕ) (status : Status) (text part : List ℕ) → part ≡ told_front number status
-    → Gathers old mid had part x → Gathers mid later x (printed_bytes text) y → AppendsFront later new (y ++ codes "\"\n")
-    → AppendsFront old new (had ++ told_line number status text)
-told_third old mid later new had x y number status text part e a b f =
-    let P : List ℕ → Type 0 = λ l. AppendsFront old new (had ++ l) in
-    let Q : List ℕ → Type 0 = λ l. Gathers old mid had l x in
-    subst P (sym (told_is number status text))
-    (gathers_front old mid new had x (told_front number status) (printed_bytes text ++ codes "\"\n") (subst Q e a)
-    (gathers_front mid later new x y (printed_bytes text) (codes "\"\n") b f))

@@ -2,7 +2,6 @@
 #![tactic(auto)]
 
 mod laws;
-mod lines;
 mod printing;
 mod run;
 

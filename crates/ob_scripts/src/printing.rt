@@ -3,17 +3,16 @@
 ghost use Rattle.std.specs.Prelude.{◌≡◌, ◌≤◌, ◌++◌, length, vec_capacity, OnOk, OnErr};
 ghost use Rattle.ob_output.specs.Gathering.{Gathers};
 ghost use Rattle.ob_output.specs.Writing.{AppendsFront};
-ghost use Rattle.ob_output.specs.Printed.{output_line, status_text, printed_bytes, entry_text, entries_text, given_text, reply_text};
+ghost use Rattle.ob_output.specs.Printed.{output_line, printed_bytes, entry_text, entries_text, given_text, reply_text};
 ghost use Rattle.ob_scripts.specs.Running.{outcome_text};
 ghost use Rattle.ob_model.specs.declared.reply.Given.TheVariants.{Text};
 
-use crate::lines::{
-    write_counts_line, write_status_front, write_status_line, write_text_front, write_text_line,
-};
-use ob_base::Status;
 use ob_effects::LineOutcome;
-use ob_model::{Entries, Given, Listed, Reply};
-use ob_output::{LINE_ROOM, Unwritten, gather, make_room, push_entry, push_printed};
+use ob_model::{Given, Listed, Reply};
+use ob_output::{
+    LINE_ROOM, Unwritten, gather, make_room, push_counts_line, push_entry, push_printed,
+    push_status_front, push_text_line,
+};
 use std::io::Write;
 
 // How many bytes of a text are printed at once.
@@ -40,13 +39,37 @@ pub fn write_outcome<W: Write>(
 {
     match outcome {
         LineOutcome::Idle => Ok(()),
-        LineOutcome::Counted(counts) => write_counts_line(writer, block, number, *counts),
+        LineOutcome::Counted(counts) => {
+            make_room(writer, block, LINE_ROOM)?;
+            push_counts_line(block, number, *counts);
+            Ok(())
+        }
         LineOutcome::Replied(reply) => write_reply(writer, block, number, reply),
         LineOutcome::Pending => write_text_line(writer, block, number, b"PENDING"),
         LineOutcome::Told(notice) => write_text_line(writer, block, number, notice.text()),
         LineOutcome::NoLine => write_text_line(writer, block, number, b"not a script line"),
         LineOutcome::NoMemory => write_text_line(writer, block, number, b"want of memory"),
     }
+}
+
+// Writes the line of a number and a text of at most 22 bytes, by way of the block.
+fn write_text_line<W: Write>(
+    writer: &mut W,
+    block: &mut Vec<u8>,
+    number: u64,
+    text: &[u8],
+) -> Result<(), Unwritten>
+    requires text { length text.now ≤ 22 }
+    requires room { 192 ≤ vec_capacity block.old }
+    ensures ok { OnOk result (Gathers (W.contents writer.old)
+        (W.contents writer.new) block.old.items (output_line number text.now) block.new.items) }
+    ensures front { OnErr result (AppendsFront (W.contents writer.old) (W.contents writer.new)
+        (block.old.items ++ output_line number text.now)) }
+    ensures capacity { vec_capacity block.old ≤ vec_capacity block.new }
+{
+    make_room(writer, block, LINE_ROOM)?;
+    push_text_line(block, number, text);
+    Ok(())
 }
 
 // Writes the line of a number and a reply, by way of the block.
@@ -64,56 +87,44 @@ fn write_reply<W: Write>(
         (block.old.items ++ output_line number (reply_text reply.now))) }
     ensures capacity { vec_capacity block.old ≤ vec_capacity block.new }
 {
-    match &reply.given {
-        Given::Nothing => write_status_line(writer, block, number, reply.status),
-        Given::Handle(_) => write_status_line(writer, block, number, reply.status),
-        Given::Process(..) => write_status_line(writer, block, number, reply.status),
-        Given::Page { entries, .. } => write_page(writer, block, number, reply.status, entries),
-        Given::Text(text) => write_text(writer, block, number, reply.status, text.as_slice()),
+    make_room(writer, block, LINE_ROOM)?;
+    push_status_front(block, number, reply.status);
+    write_given(writer, block, &reply.given)?;
+    gather(writer, block, b"\n")
+}
+
+// Writes what follows the status of a reply, by way of the block.
+fn write_given<W: Write>(
+    writer: &mut W,
+    block: &mut Vec<u8>,
+    given: &Given,
+) -> Result<(), Unwritten>
+    requires { 192 ≤ vec_capacity block.old }
+    ensures ok { OnOk result (Gathers (W.contents writer.old)
+        (W.contents writer.new) block.old.items (given_text given.now) block.new.items) }
+    ensures front { OnErr result (AppendsFront (W.contents writer.old) (W.contents writer.new)
+        (block.old.items ++ given_text given.now)) }
+    ensures capacity { vec_capacity block.old ≤ vec_capacity block.new }
+{
+    match given {
+        Given::Nothing | Given::Handle(_) | Given::Process(..) => Ok(()),
+        Given::Page { entries, .. } => write_entries(writer, block, entries.as_slice()),
+        Given::Text(text) => write_text(writer, block, text.as_slice()),
     }
 }
 
-// Writes the line of a number, a status and a text that is given, by way of the block.
-fn write_text<W: Write>(
-    writer: &mut W,
-    block: &mut Vec<u8>,
-    number: u64,
-    status: Status,
-    text: &[u8],
-) -> Result<(), Unwritten>
+// Writes a text that is given, between double quotes after a space, by way of the block.
+fn write_text<W: Write>(writer: &mut W, block: &mut Vec<u8>, text: &[u8]) -> Result<(), Unwritten>
     requires { 192 ≤ vec_capacity block.old }
     ensures ok { OnOk result (Gathers (W.contents writer.old)
-        (W.contents writer.new) block.old.items
-        (output_line number (status_text status ++ given_text (Text text.now))) block.new.items) }
+        (W.contents writer.new) block.old.items (given_text (Text text.now)) block.new.items) }
     ensures front { OnErr result (AppendsFront (W.contents writer.old) (W.contents writer.new)
-        (block.old.items ++ output_line number (status_text status
-        ++ given_text (Text text.now)))) }
+        (block.old.items ++ given_text (Text text.now))) }
     ensures capacity { vec_capacity block.old ≤ vec_capacity block.new }
 {
-    write_text_front(writer, block, number, status)?;
+    gather(writer, block, b" \"")?;
     write_printed(writer, block, text)?;
-    gather(writer, block, b"\"\n")
-}
-
-// Writes the line of a number, a status and a page that is given, by way of the block.
-fn write_page<W: Write>(
-    writer: &mut W,
-    block: &mut Vec<u8>,
-    number: u64,
-    status: Status,
-    entries: &Entries,
-) -> Result<(), Unwritten>
-    requires { 192 ≤ vec_capacity block.old }
-    ensures ok { OnOk result (Gathers (W.contents writer.old)
-        (W.contents writer.new) block.old.items
-        (output_line number (status_text status ++ entries_text entries.now)) block.new.items) }
-    ensures front { OnErr result (AppendsFront (W.contents writer.old) (W.contents writer.new)
-        (block.old.items ++ output_line number (status_text status ++ entries_text entries.now))) }
-    ensures capacity { vec_capacity block.old ≤ vec_capacity block.new }
-{
-    write_status_front(writer, block, number, status)?;
-    write_entries(writer, block, entries.as_slice())?;
-    gather(writer, block, b"\n")
+    gather(writer, block, b"\"")
 }
 
 // Writes the entries of a page, by way of the block.
@@ -150,30 +161,12 @@ fn write_entry<W: Write>(
 {
     let (name, type_name) = (entry.name.as_slice(), entry.type_name.as_str().as_bytes());
     if name.len() <= SHORT && type_name.len() <= SHORT {
-        write_short_entry(writer, block, entry)
+        make_room(writer, block, LINE_ROOM)?;
+        push_entry(block, entry);
+        Ok(())
     } else {
         write_long_entry(writer, block, entry)
     }
-}
-
-// Writes an entry of a page, whose name and whose type's name are short, by way of the block.
-fn write_short_entry<W: Write>(
-    writer: &mut W,
-    block: &mut Vec<u8>,
-    entry: &Listed,
-) -> Result<(), Unwritten>
-    requires name { length entry.now.name ≤ 32 }
-    requires type_name { length entry.now.type_name ≤ 32 }
-    requires room { 192 ≤ vec_capacity block.old }
-    ensures ok { OnOk result (Gathers (W.contents writer.old)
-        (W.contents writer.new) block.old.items (entry_text entry.now) block.new.items) }
-    ensures front { OnErr result (AppendsFront (W.contents writer.old) (W.contents writer.new)
-        (block.old.items ++ entry_text entry.now)) }
-    ensures capacity { vec_capacity block.old ≤ vec_capacity block.new }
-{
-    make_room(writer, block, LINE_ROOM)?;
-    push_entry(block, entry);
-    Ok(())
 }
 
 // Writes an entry of a page part by part, by way of the block.

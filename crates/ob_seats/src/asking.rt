@@ -5,9 +5,6 @@ ghost use Rattle.ob_model.specs.declared.reply.Event.TheVariants.{Start, Resume}
 ghost use Rattle.ob_model.specs.declared.reply.ParseRun.{ParseRun};
 ghost use Rattle.ob_runner.specs.Completes.{HasRun};
 ghost use Rattle.ob_lines.specs.Grammar.{HasTexts, request_seen};
-ghost use Rattle.ob_lines.specs.Changes.{change_seen};
-ghost use Rattle.ob_requests.specs.Commands.{IsCommand};
-ghost use Rattle.ob_requests.specs.Room.{HasRoomFor};
 ghost use Rattle.ob_requests.specs.Tables.{variables_in};
 ghost use Rattle.ob_seats.specs.Received.{Entries};
 ghost use Rattle.ob_seats.specs.Played.{IsRequestPlayed, IsRunBy};
@@ -17,9 +14,9 @@ use crate::callers::{CallOutcome, Callers};
 use crate::changes::keep_reply;
 use crate::stop::Stop;
 use ob_base::Proc;
-use ob_lines::{Change, Request, change_of};
+use ob_lines::Request;
 use ob_model::{Command, Reply};
-use ob_requests::{Asker, Variables, command_of};
+use ob_requests::{Variables, command_of};
 use ob_standard::StandardKind;
 use std::alloc::AllocError;
 use std::sync::Wait;
@@ -45,10 +42,9 @@ pub(crate) fn answer<R: Wait, C: Callers>(
     ensures seat { C.seat_of (result.0) ≡ C.seat_of pass }
     ensures tickets { (variables_in variables.new).tickets ≡ (variables_in variables.old).tickets }
 {
-    let change = change_of(&request);
-    match prepare(variables, process, request, change) {
+    match command_of(variables, process, &request) {
         Err(_) => (pass, Err(Stop::Memory)),
-        Ok(command) => {
+        Ok((command, change)) => {
             let (pass, ran) = run(rt, callers, pass, process, &command);
             match ran {
                 Err(stop) => (pass, Err(stop)),
@@ -59,24 +55,6 @@ pub(crate) fn answer<R: Wait, C: Callers>(
             }
         }
     }
-}
-
-/// The command of a request, with room for what its reply changes.
-fn prepare(
-    variables: &mut Variables,
-    process: Proc,
-    request: Request<&[u8]>,
-    change: Change<&[u8]>,
-) -> Result<Command<StandardKind>, AllocError>
-    requires texts { HasTexts (request_seen request) }
-    ensures command { IfOk result (IsCommand (request_seen request.entry)
-        (variables_in variables.old) process) }
-    ensures room { OnOk result (HasRoomFor variables.new process (change_seen change.entry)) }
-    ensures same { variables_in variables.new ≡ variables_in variables.old }
-{
-    variables.make_room(process, change)?;
-    let asker = Asker { variables, process };
-    command_of(&asker, &request)
 }
 
 /// Runs a command of a process to its reply.

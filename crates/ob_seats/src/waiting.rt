@@ -50,112 +50,30 @@ pub(crate) fn carry_on<C: Callers>(
             name,
             attrs,
             variable,
-        } => begin_under(
-            callers,
-            variables,
-            waits,
-            pass,
-            process,
-            (want, name, attrs),
-            variable,
-        ),
-        PendingForm::End { variable } => end_under(
-            callers, variables, waits, pass, process, variable,
-        ),
-        PendingForm::Drop { variable } => drop_under(
-            callers, variables, waits, pass, process, variable,
-        ),
-    }
-}
-
-/// Begins an open of a process under a variable, unless one waits there.
-fn begin_under<C: Callers>(
-    callers: &C,
-    variables: &mut Variables,
-    waits: &mut SeatWaits<C>,
-    pass: C::Pass,
-    process: Proc,
-    asked: OpenForm<'_>,
-    variable: &[u8],
-) -> (C::Pass, Result<(), Stop>)
-    requires text { IsText (text_of (name_seen (asked.1))) }
-    requires held { AreHeld (variables_in variables.old).tickets waits.old }
-    ensures held { AreHeld (variables_in variables.new).tickets waits.new }
-    ensures played { OnOk (result.1) ((entries : Entries) × (C.receipts (result.0) ≡ C.receipts pass
-        ++ entries)
-        × IsWaitPlayed (Begin (asked.entry.0) (name_seen (asked.entry.1))
-        (asked.entry.2) variable.now) process (variables_in variables.old) entries (variables_in variables.new)) }
-    ensures begun { IfErr (result.1) (λ why. (entries : Entries) × (C.receipts (result.0)
-        ≡ C.receipts pass ++ entries)
-        × IsWaitBegun (C.gives_fault (result.0)) (Begin (asked.entry.0) (name_seen (asked.entry.1)) (asked.entry.2) variable.now) process
-        (variables_in variables.old) entries why (variables_in variables.new)) }
-    ensures seat { C.seat_of (result.0) ≡ C.seat_of pass }
-{
-    if variables.ticket_of(process, variable) != 0 {
-        return (pass, Ok(()));
-    }
-    begin(callers, variables, waits, pass, process, asked, variable)
-}
-
-/// Ends the open that waits under a variable of a process, where one does.
-fn end_under<C: Callers>(
-    callers: &C,
-    variables: &mut Variables,
-    waits: &mut SeatWaits<C>,
-    pass: C::Pass,
-    process: Proc,
-    variable: &[u8],
-) -> (C::Pass, Result<(), Stop>)
-    requires held { AreHeld (variables_in variables.old).tickets waits.old }
-    ensures held { AreHeld (variables_in variables.new).tickets waits.new }
-    ensures played { OnOk (result.1) ((entries : Entries) × (C.receipts (result.0) ≡ C.receipts pass
-        ++ entries)
-        × IsWaitPlayed (End variable.now) process (variables_in variables.old) entries (variables_in variables.new)) }
-    ensures begun { IfErr (result.1) (λ why. (entries : Entries) × (C.receipts (result.0)
-        ≡ C.receipts pass ++ entries)
-        × IsWaitBegun (C.gives_fault (result.0)) (End variable.now) process
-        (variables_in variables.old) entries why (variables_in variables.new)) }
-    ensures seat { C.seat_of (result.0) ≡ C.seat_of pass }
-{
-    let ticket = variables.ticket_of(process, variable);
-    if ticket == 0 {
-        return (pass, Ok(()));
-    }
-    end(callers, variables, waits, pass, process, variable, ticket)
-}
-
-/// Gives up the open that waits under a variable of a process, where one does. A handle that the variable held stays open, and is no longer named.
-fn drop_under<C: Callers>(
-    callers: &C,
-    variables: &mut Variables,
-    waits: &mut SeatWaits<C>,
-    pass: C::Pass,
-    process: Proc,
-    variable: &[u8],
-) -> (C::Pass, Result<(), Stop>)
-    requires held { AreHeld (variables_in variables.old).tickets waits.old }
-    ensures held { AreHeld (variables_in variables.new).tickets waits.new }
-    ensures played { OnOk (result.1) ((entries : Entries) × (C.receipts (result.0) ≡ C.receipts pass
-        ++ entries)
-        × IsWaitPlayed (Drop variable.now) process (variables_in variables.old) entries (variables_in variables.new)) }
-    ensures begun { IfErr (result.1) (λ why. (entries : Entries) × (C.receipts (result.0)
-        ≡ C.receipts pass ++ entries)
-        × IsWaitBegun (C.gives_fault (result.0)) (Drop variable.now) process
-        (variables_in variables.old) entries why (variables_in variables.new)) }
-    ensures seat { C.seat_of (result.0) ≡ C.seat_of pass }
-{
-    let ticket = variables.ticket_of(process, variable);
-    if ticket == 0 {
-        return (pass, Ok(()));
-    }
-    let parsing = waits.take(ticket);
-    let (pass, is_made) = callers.abandon(pass, parsing);
-    variables.clear_ticket(process, variable);
-    variables.give_up(process, variable);
-    if is_made {
-        (pass, Ok(()))
-    } else {
-        (pass, Err(Stop::Refused))
+        } => match variables.ticket_of(process, variable) {
+            0 => begin(
+                callers,
+                variables,
+                waits,
+                pass,
+                process,
+                (want, name, attrs),
+                variable,
+            ),
+            _ => (pass, Ok(())),
+        },
+        PendingForm::End { variable } => match variables.ticket_of(process, variable) {
+            0 => (pass, Ok(())),
+            ticket => end(
+                callers, variables, waits, pass, process, variable, ticket,
+            ),
+        },
+        PendingForm::Drop { variable } => match variables.ticket_of(process, variable) {
+            0 => (pass, Ok(())),
+            ticket => give_up(
+                callers, variables, waits, pass, process, variable, ticket,
+            ),
+        },
     }
 }
 
@@ -282,5 +200,40 @@ fn end<C: Callers>(
                 }
             }
         }
+    }
+}
+
+/// Gives up the open that waits under a variable of a process, whose parse isn't run. A handle that the variable held stays open, and is no longer
+/// named.
+fn give_up<C: Callers>(
+    callers: &C,
+    variables: &mut Variables,
+    waits: &mut SeatWaits<C>,
+    pass: C::Pass,
+    process: Proc,
+    variable: &[u8],
+    ticket: u64,
+) -> (C::Pass, Result<(), Stop>)
+    requires under { (variables_in variables.old).tickets process variable.now ≡ ticket }
+    requires some { ticket ≢ 0 }
+    requires held { AreHeld (variables_in variables.old).tickets waits.old }
+    ensures held { AreHeld (variables_in variables.new).tickets waits.new }
+    ensures played { OnOk (result.1) ((e : Entry StandardKinds) × (C.receipts (result.0)
+        ≡ C.receipts pass ++ e ∷ [])
+        × IsStepPlayed (Drop variable.now) process (variables_in variables.old) e (variables_in variables.new)) }
+    ensures begun { IfErr (result.1) (λ why. (entries : Entries) × (C.receipts (result.0)
+        ≡ C.receipts pass ++ entries)
+        × IsStepBegun (C.gives_fault (result.0)) (Drop variable.now) process
+        (variables_in variables.old) entries why (variables_in variables.new)) }
+    ensures seat { C.seat_of (result.0) ≡ C.seat_of pass }
+{
+    let parsing = waits.take(ticket);
+    let (pass, is_made) = callers.abandon(pass, parsing);
+    variables.clear_ticket(process, variable);
+    variables.give_up(process, variable);
+    if is_made {
+        (pass, Ok(()))
+    } else {
+        (pass, Err(Stop::Refused))
     }
 }

@@ -5,22 +5,21 @@ use Rattle.ob_types.specs.Both.{both_procedures, IsEitherIdle}
 use Rattle.ob_types.specs.BothLaws.{both_refused_open, both_made_idle, both_closed_idle, both_one_kind, both_own_kind, both_front, both_itself, both_parsed_idle, both_own_face, both_same_answers}
 use Rattle.ob_plain.specs.Plain.{plain_procedures, same_plain_kind, unless_told, one_more}
 use Rattle.ob_plain.specs.Plain as plain
+use Rattle.ob_plain.specs.Handles as handles
 use Rattle.ob_plain.specs.declared.plain.PlainKind.TheVariants.{Event, Mutant, Section}
 use Rattle.ob_plain.specs.Counting.{counting_procedures, counted}
 use Rattle.ob_plain.specs.Fronts.{counted_front}
 use Rattle.ob_device.specs.Device.{device_procedures}
-use Rattle.ob_device.specs.Device as device
 use Rattle.ob_device.specs.DeviceLaws.{device_front, device_itself, device_parsed_idle, device_own_face, device_same_answers}
 use Rattle.ob_device.specs.declared.device.DeviceKind.TheVariants.{Device, File}
 use Rattle.ob_key.specs.Key.{key_procedures}
-use Rattle.ob_key.specs.Key as key
 use Rattle.ob_key.specs.KeyLaws.{key_front, key_itself, key_parsed_idle, key_own_face, key_same_answers}
 use Rattle.ob_key.specs.declared.key.KeyKind.TheVariants.{Key}
 use Rattle.ob_standard.specs.Standard.{StandardInner, standard}
 
 -- no handle is open
 abbrev pub IsIdle : StandardInner → Type 0
-IsIdle = IsEitherIdle plain.IsIdle (IsEitherIdle device.IsIdle key.IsIdle)
+IsIdle = IsEitherIdle plain.IsIdle (IsEitherIdle handles.IsIdle handles.IsIdle)
 
 -- ---- laws of single parts
 
@@ -88,13 +87,13 @@ standard_refused_open =
 
 pub standard_made_idle : MadeIsIdle standard IsIdle
 standard_made_idle =
-    both_made_idle plain_procedures (both_procedures device_procedures key_procedures) plain.IsIdle (IsEitherIdle device.IsIdle key.IsIdle) (λ _ _ _. refl)
-    (both_made_idle device_procedures key_procedures device.IsIdle key.IsIdle (λ _ _ _. refl) (λ _ _ _. refl))
+    both_made_idle plain_procedures (both_procedures device_procedures key_procedures) plain.IsIdle (IsEitherIdle handles.IsIdle handles.IsIdle) (λ _ _ _. refl)
+    (both_made_idle device_procedures key_procedures handles.IsIdle handles.IsIdle (λ _ _ _. refl) (λ _ _ _. refl))
 
 pub standard_closed_idle : LastClosedIsIdle standard IsIdle
 standard_closed_idle =
-    λ counting. both_closed_idle plain_procedures (both_procedures device_procedures key_procedures) plain.IsIdle (IsEitherIdle device.IsIdle key.IsIdle) (λ _ _ _. refl)
-    (both_closed_idle device_procedures key_procedures device.IsIdle key.IsIdle (λ _ _ _. refl) (λ _ _ _. refl)) counting.part
+    λ counting. both_closed_idle plain_procedures (both_procedures device_procedures key_procedures) plain.IsIdle (IsEitherIdle handles.IsIdle handles.IsIdle) (λ _ _ _. refl)
+    (both_closed_idle device_procedures key_procedures handles.IsIdle handles.IsIdle (λ _ _ _. refl) (λ _ _ _. refl)) counting.part
 
 pub standard_front : FrontIsUsed standard
 standard_front =
@@ -107,8 +106,8 @@ standard_itself =
 
 pub standard_parsed_idle : ParsedIsIdle standard IsIdle
 standard_parsed_idle =
-    both_parsed_idle plain_procedures (both_procedures device_procedures key_procedures) plain.IsIdle (IsEitherIdle device.IsIdle key.IsIdle) plain_parsed_idle
-    (both_parsed_idle device_procedures key_procedures device.IsIdle key.IsIdle device_parsed_idle key_parsed_idle)
+    both_parsed_idle plain_procedures (both_procedures device_procedures key_procedures) plain.IsIdle (IsEitherIdle handles.IsIdle handles.IsIdle) plain_parsed_idle
+    (both_parsed_idle device_procedures key_procedures handles.IsIdle handles.IsIdle device_parsed_idle key_parsed_idle)
 
 pub standard_own_face : OwnFaceIsSame standard
 standard_own_face =

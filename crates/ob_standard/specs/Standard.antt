@@ -1,7 +1,7 @@
 -- The standard set of types: the plain types, devices with their files, and keys, counted.
 --
 -- Source: this profile.
-use Rattle.std.specs.Prelude.{◌≡◌}
+use Rattle.std.specs.Prelude.{◌≡◌, ℕ}
 use Rattle.either.specs.declared.Either.{Either}
 use Rattle.ob_model.specs.Procedures.{Procedures}
 use Rattle.ob_types.specs.declared.both.Both.{Both}
@@ -16,11 +16,9 @@ use Rattle.ob_plain.specs.Counting.{counting_procedures, opens_of, closes_of, de
 use Rattle.ob_device.specs.declared.device.DeviceSet.{DeviceSet}
 use Rattle.ob_device.specs.declared.device.DeviceKind.{DeviceKind}
 use Rattle.ob_device.specs.declared.device.DeviceFace.{DeviceFace}
-use Rattle.ob_device.specs.declared.device.DeviceInner.{DeviceInner}
 use Rattle.ob_device.specs.Device.{device_procedures}
 use Rattle.ob_key.specs.declared.key.KeySet.{KeySet}
 use Rattle.ob_key.specs.declared.key.KeyKind.{KeyKind}
-use Rattle.ob_key.specs.declared.key.KeyInner.{KeyInner}
 use Rattle.ob_key.specs.Entries.{KeyPlace}
 use Rattle.ob_key.specs.Key.{key_procedures}
 
@@ -36,9 +34,9 @@ StandardKind = Either PlainKind (Either DeviceKind KeyKind)
 abbrev pub StandardFace : Type 0
 StandardFace = Either PlainFace (Either DeviceFace KeyPlace)
 
--- what the procedures change of an object
+-- what the procedures change of an object: of a device, a file or a key the number of handles
 abbrev pub StandardInner : Type 0
-StandardInner = Either PlainInner (Either DeviceInner KeyInner)
+StandardInner = Either PlainInner (Either ℕ ℕ)
 
 -- the procedures: those of the part that owns the kind, the face or the inner value, and each call is counted
 abbrev pub standard : Procedures StandardKind Standard StandardFace StandardInner

@@ -11,9 +11,9 @@ ghost use Rattle.ob_standard.specs.Laws.{IsIdle, standard_refused_open, standard
 ghost use Rattle.ob_standard.specs.Laws.{standard_parsed_idle, standard_own_face, standard_same_answers, standard_one_kind, standard_own_kind};
 
 use either::Either;
-use ob_device::{DeviceFace, DeviceInner, DeviceKind, DeviceSet};
-use ob_key::{KeyFace, KeyInner, KeyKind, KeySet};
-use ob_plain::{Counting, Plain, PlainFace, PlainInner, PlainKind};
+use ob_device::{DeviceFace, DeviceKind, DeviceSet};
+use ob_key::{KeyFace, KeyKind, KeySet};
+use ob_plain::{Counting, HandleCount, Plain, PlainFace, PlainInner, PlainKind};
 use ob_types::{Both, ParseAnswer, Reason, Refusal, TypeSet};
 use std::alloc::{AllocError, Global};
 use std::marker::Model;
@@ -28,7 +28,7 @@ pub type StandardKind = Either<PlainKind, Either<DeviceKind, KeyKind>>;
 pub type StandardFace = Either<PlainFace, Either<DeviceFace, KeyFace>>;
 
 /// The part of an object of the standard set that the procedures change. (this profile)
-pub type StandardInner = Either<PlainInner, Either<DeviceInner, KeyInner>>;
+pub type StandardInner = Either<PlainInner, Either<HandleCount, HandleCount>>;
 
 /// The standard set: the plain types, devices with their files, and keys, counted. The names of its types
 /// are `Event`, `Mutant`, `Section`, `Device`, `File` and `Key`; a namespace has two more of its own,

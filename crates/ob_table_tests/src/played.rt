@@ -5,8 +5,8 @@ ghost use Rattle.ob_lines.specs.Grammar.{HasTexts, request_seen};
 use crate::cases::CASES;
 use ob_base::{Proc, Status};
 use ob_core::{Core, Given, HandleTable, OpenTable, Reply, SlabTable};
-use ob_lines::{Form, Request, change_of, read_line};
-use ob_requests::{Asker, Variables, command_of};
+use ob_lines::{Form, Request, read_line};
+use ob_requests::{Variables, command_of};
 use ob_runner::run_command;
 use ob_standard::Standard;
 use std::alloc::Global;
@@ -28,15 +28,7 @@ fn reply_to<H: HandleTable>(
 ) -> Option<Reply>
     requires { HasTexts (request_seen request.now) }
 {
-    let change = change_of(request);
-    let Ok(()) = player.variables.make_room(process, change) else {
-        return None;
-    };
-    let asker = Asker {
-        variables: &player.variables,
-        process,
-    };
-    let Ok(command) = command_of(&asker, request) else {
+    let Ok((command, change)) = command_of(&mut player.variables, process, request) else {
         return None;
     };
     let reply = run_command(&mut player.core, player.alloc, process, &command);

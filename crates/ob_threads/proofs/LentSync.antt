@@ -13,24 +13,22 @@ use Rattle.either.proofs.Either.TheSendSync as eithers
 use Rattle.ob_plain.specs.contracts.plain.PlainKind as plain_kind
 use Rattle.ob_plain.specs.contracts.plain.PlainFace as plain_face
 use Rattle.ob_plain.specs.contracts.plain.PlainInner as plain_inner
+use Rattle.ob_plain.specs.contracts.handles.HandleCount as handle_count
 use Rattle.ob_plain.specs.contracts.plain.PlainKindPartialEq.TheImpl as plain_equal
 use Rattle.ob_plain.proofs.plain.PlainKind.TheSendSync as plain_kinds
 use Rattle.ob_plain.proofs.plain.PlainFace.TheSendSync as plain_faces
 use Rattle.ob_plain.proofs.plain.PlainInner.TheSendSync as plain_inners
+use Rattle.ob_plain.proofs.handles.HandleCount.TheSendSync as handle_counts
 use Rattle.ob_device.specs.contracts.device.DeviceKind as device_kind
 use Rattle.ob_device.specs.contracts.device.DeviceFace as device_face
-use Rattle.ob_device.specs.contracts.device.DeviceInner as device_inner
 use Rattle.ob_device.specs.contracts.device.DeviceKindPartialEq.TheImpl as device_equal
 use Rattle.ob_device.proofs.device.DeviceKind.TheSendSync as device_kinds
 use Rattle.ob_device.proofs.device.DeviceFace.TheSendSync as device_faces
-use Rattle.ob_device.proofs.device.DeviceInner.TheSendSync as device_inners
 use Rattle.ob_key.specs.contracts.key.KeyKind as key_kind
 use Rattle.ob_key.specs.contracts.face.KeyFace as key_face
-use Rattle.ob_key.specs.contracts.key.KeyInner as key_inner
 use Rattle.ob_key.specs.contracts.key.KeyKindPartialEq.TheImpl as key_equal
 use Rattle.ob_key.proofs.key.KeyKind.TheSendSync as key_kinds
 use Rattle.ob_key.proofs.face.KeyFace.TheSendSync as key_faces
-use Rattle.ob_key.proofs.key.KeyInner.TheSendSync as key_inners
 use Rattle.ob_standard.specs.contracts.set.Standard as standard
 use Rattle.ob_standard.proofs.set.Standard.TheSendSync as standards
 use Rattle.ob_handles.specs.contracts.slab_table.SlabTable as table
@@ -49,7 +47,7 @@ abbrev face : RattleType
 face = either.the_row plain_face.the_row (either.the_row device_face.the_row key_face.the_row)
 
 abbrev inner : RattleType
-inner = either.the_row plain_inner.the_row (either.the_row device_inner.the_row key_inner.the_row)
+inner = either.the_row plain_inner.the_row (either.the_row handle_count.the_row handle_count.the_row)
 
 kind_send : IsSend kind
 kind_send = eithers.the_send plain_kind.the_row (either.the_row device_kind.the_row key_kind.the_row) plain_kinds.the_send
@@ -68,8 +66,8 @@ face_sync = eithers.the_sync plain_face.the_row (either.the_row device_face.the_
     (eithers.the_sync device_face.the_row key_face.the_row device_faces.the_sync key_faces.the_sync)
 
 inner_send : IsSend inner
-inner_send = eithers.the_send plain_inner.the_row (either.the_row device_inner.the_row key_inner.the_row) plain_inners.the_send
-    (eithers.the_send device_inner.the_row key_inner.the_row device_inners.the_send key_inners.the_send)
+inner_send = eithers.the_send plain_inner.the_row (either.the_row handle_count.the_row handle_count.the_row) plain_inners.the_send
+    (eithers.the_send handle_count.the_row handle_count.the_row handle_counts.the_send handle_counts.the_send)
 
 -- when two kinds are equal
 abbrev equal : PartialEq.Ghosts kind.Denot

@@ -3,16 +3,15 @@ use Rattle.ob_device.specs.Device.{device_procedures}
 use Rattle.ob_device.specs.declared.device.DeviceSet.{DeviceSet}
 use Rattle.ob_device.specs.declared.device.DeviceKind.{DeviceKind}
 use Rattle.ob_device.specs.declared.device.DeviceFace.{DeviceFace}
-use Rattle.ob_device.specs.declared.device.DeviceInner.{DeviceInner}
 use Rattle.ob_model.specs.declared.state.Row.{Row}
 use Rattle.ob_model.specs.Opening.{opening}
 use Rattle.ob_shared.specs.Publisher.{LeadThroughRun}
-use Rattle.std.proofs.Common.{List}
+use Rattle.std.proofs.Common.{ℕ, List}
 use Rattle.viewers.proofs.played.Given as goal
 
 -- the rows of the opening state
 abbrev pub opening_rows : List Row
-opening_rows = (opening {K = DeviceKind} {T = DeviceSet} {F = DeviceFace} {I = DeviceInner} (record {})).rows
+opening_rows = (opening {K = DeviceKind} {T = DeviceSet} {F = DeviceFace} {I = ℕ} (record {})).rows
 
 abbrev pub ghosts-outcome_of-L-Ledger : goal.ghosts-outcome_of-L-Ledger
 ghosts-outcome_of-L-Ledger g a = record { name = a.blank.name; parts = a.blank.parts }

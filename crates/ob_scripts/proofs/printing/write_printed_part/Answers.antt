@@ -1,14 +1,8 @@
 -- Room is made first; where that isn't written, a beginning of the block is.
 use Rattle.ob_output.proofs.Writers.{at_err, front-append}
-use Rattle.ob_output.proofs.Gathered.{gathers_room}
 use Rattle.ob_scripts.proofs.printing.write_printed_part.Goals as goal
 
 pub returns-in_err-make_room-clause-front : goal.returns-in_err-make_room-clause-front
 returns-in_err-make_room-clause-front g c =
     at_err c.from_residual.result _
     (front-append (g.W.Write.contents c.args.writer.now) (g.W.Write.contents c.make_room.new.writer) c.args.block.now.items _ c.in_err-make_room.ensures.front)
-
-pub returns-clause-ok : goal.returns-clause-ok
-returns-clause-ok g c =
-    gathers_room (g.W.Write.contents c.args.writer.now) (g.W.Write.contents c.make_room.new.writer) c.args.block.now.items c.make_room.new.block.items _ _
-    c.in_ok-make_room.ensures.ok c.push_printed.ensures.items
