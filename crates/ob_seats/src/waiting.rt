@@ -64,15 +64,11 @@ pub(crate) fn carry_on<C: Callers>(
         },
         PendingForm::End { variable } => match variables.ticket_of(process, variable) {
             0 => (pass, Ok(())),
-            ticket => end(
-                callers, variables, waits, pass, process, variable, ticket,
-            ),
+            ticket => end(callers, variables, waits, pass, process, variable, ticket),
         },
         PendingForm::Drop { variable } => match variables.ticket_of(process, variable) {
             0 => (pass, Ok(())),
-            ticket => give_up(
-                callers, variables, waits, pass, process, variable, ticket,
-            ),
+            ticket => give_up(callers, variables, waits, pass, process, variable, ticket),
         },
     }
 }
