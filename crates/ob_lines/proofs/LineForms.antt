@@ -20,7 +20,8 @@ use Rattle.ob_lines.specs.declared.verb.Verb.TheVariants as verb
 use Rattle.ob_parts.specs.Text.{Lacks, IsText}
 use Rattle.ob_parts.specs.Parts.{text_of, BeginsWithName, BeginsWithPlace, BeginsWithRoom, BeginsWithProcess, BeginsWithInherit, IsSetting, SetsProcess, IsFlagsAndVariable, IsFlagsTextAndVariable, IsWantNameFlagsAndVariable, IsPlaceFlagsTextAndVariable}
 use Rattle.ob_lines.specs.Script.{HasForm, found_seen}
-use Rattle.ob_lines.specs.Grammar.{HasPlaceText, HasTexts, PendingHasTexts, FormHasTexts, verb_text, verb_of, IsOperands, IsVerbAndOperands, IsRequest, IsPending, IsHandlePlaceFlagsAndVariable, IsHandleRoomAndMode, IsHandleProcessAndVariable, IsInheritAndProcess, IsIdle, IsLine, LinesHaveOneForm, form_seen}
+use Rattle.ob_lines.specs.Verbs.{verb_text}
+use Rattle.ob_lines.specs.Grammar.{HasPlaceText, HasTexts, PendingHasTexts, FormHasTexts, verb_of, IsOperands, IsVerbAndOperands, IsRequest, IsPending, IsHandlePlaceFlagsAndVariable, IsHandleRoomAndMode, IsHandleProcessAndVariable, IsInheritAndProcess, IsIdle, IsLine, LinesHaveOneForm, form_seen}
 use Rattle.ob_parts.proofs.Cuts.{lacks_no_cut}
 use Rattle.ob_parts.proofs.Flagged.{lacks_from_test}
 use Rattle.ob_parts.proofs.Handles.{handle_alike}

@@ -20,8 +20,9 @@ use Rattle.ob_lines.specs.declared.request.Request.{Request}
 use Rattle.ob_lines.specs.declared.request.Request.TheVariants.{CreateDirectory, CreateShadowed, CreateLink, CreateObject, OpenDirectory, OpenLink, OpenObject, Close, QueryLink, QueryName, QueryDirectory, Duplicate, MakeTemporary, MakePermanent, SetDeviceMap, NewProcess}
 use Rattle.ob_lines.specs.declared.verb.Verb.{Verb}
 use Rattle.ob_lines.specs.declared.verb.Verb.TheVariants as verb
-use Rattle.ob_lines.specs.Grammar.{IsLine, IsOperands, longest_line, verb_of, verb_text}
-use Rattle.ob_lines.specs.Misfits.{HasSorts, IsCutAtSpace, Sorts, sorts_of}
+use Rattle.ob_lines.specs.Grammar.{IsLine, IsOperands, longest_line, verb_of}
+use Rattle.ob_lines.specs.Misfits.{HasSorts, IsCutAtSpace}
+use Rattle.ob_lines.specs.Verbs.{Sorts, sorts_of, verb_text}
 use Rattle.ob_lines.proofs.LineForms.{request_joined}
 use Rattle.ob_lines.proofs.Verbs.{verb_lacks}
 

@@ -15,8 +15,9 @@ use Rattle.ob_lines.specs.declared.misfit.Expected.{Expected}
 use Rattle.ob_lines.specs.declared.misfit.Expected.TheVariants as expected
 use Rattle.ob_lines.specs.declared.misfit.Misfit.{Misfit}
 use Rattle.ob_lines.specs.declared.verb.Verb.{Verb}
-use Rattle.ob_lines.specs.Grammar.{longest_line, verb_text}
-use Rattle.ob_lines.specs.Misfits.{HasSorts, IsColumn, IsCutAtSpace, IsMisfit, LinesHaveOneMisfit, Sorts, StopsAfterVerb, StopsLine, expected_text, sorts_of, sorts_text}
+use Rattle.ob_lines.specs.Grammar.{longest_line}
+use Rattle.ob_lines.specs.Verbs.{Sorts, sorts_of, verb_text}
+use Rattle.ob_lines.specs.Misfits.{HasSorts, IsColumn, IsCutAtSpace, IsMisfit, LinesHaveOneMisfit, StopsAfterVerb, StopsLine, expected_text, sorts_text}
 use Rattle.ob_lines.proofs.Misfitted.{sorts_lack}
 use Rattle.ob_lines.proofs.Verbs.{begin_no_verb, drop_no_verb, end_no_verb, verb_same}
 

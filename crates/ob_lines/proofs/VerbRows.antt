@@ -10,21 +10,23 @@ use Rattle.ob_parts.specs.declared.sort.PartForm.{PartForm}
 use Rattle.ob_parts.specs.declared.sort.LastForm.{LastForm}
 use Rattle.ob_lines.specs.declared.verb.Verb.{Verb}
 use Rattle.ob_lines.specs.declared.verb.VerbRow.{VerbRow}
-use Rattle.ob_lines.specs.Grammar.{verb_text}
-use Rattle.ob_lines.specs.Misfits.{Sorts, sorts_of}
-use Rattle.ob_lines.specs.Verbs.{Row, all_verbs, row_of, row_seen}
+use Rattle.ob_lines.specs.Verbs.{Row, Sorts, all_verbs, row_of, row_seen, sorts_of, verb_text}
 use Rattle.ob_lines.proofs.Verbs.{read, each_verb, no_verb}
 
 -- sorts, whose slices are seen as the lists that they hold
 abbrev pub sorts_seen : Bor (List PartForm) × LastForm → Sorts
 sorts_seen sorts = (sorts.0.now, sorts.1)
 
-some_row : (a b : Row) → Some a ≡ Some b → a ≡ b
+-- a verb and its row
+abbrev with_row : Verb → Verb × Row
+with_row verb = (verb, row_of verb)
+
+some_row : (a b : Verb × Row) → Some a ≡ Some b → a ≡ b
 some_row a b e = cc
 
 -- the rows of all verbs
 abbrev pub AreRows : List VerbRow → Type 0
-AreRows rows = map row_seen rows ≡ map row_of all_verbs
+AreRows rows = map row_seen rows ≡ map with_row all_verbs
 
 -- the first image that passes a test is that of the first element whose image does
 find_image : {X Y : Type 0} (f : X → Y) (p : Y → Bool) (xs : List X) → option_map f (find (λ x. p (f x)) xs) ≡ find p (map f xs)
@@ -38,10 +40,10 @@ find_image {X} {Y} f p (x ∷ xs) = go (p (f x)) (find_image f p xs)
 
 -- the row that a word finds is that of the verb that it is read as
 found_row : (rows : List VerbRow) (word : List ℕ) → AreRows rows
-    → option_map row_seen (find (λ row. bytes_eq row.word.now word) rows) ≡ option_map row_of (read word)
+    → option_map row_seen (find (λ row. bytes_eq row.word.now word) rows) ≡ option_map with_row (read word)
 found_row rows word are =
-    find_image row_seen (λ row. bytes_eq row.0 word) rows ∙ ap (find (λ row. bytes_eq row.0 word)) are
-    ∙ sym (find_image row_of (λ row. bytes_eq row.0 word) all_verbs)
+    find_image row_seen (λ row. bytes_eq row.1.0 word) rows ∙ ap (find (λ row. bytes_eq row.1.0 word)) are
+    ∙ sym (find_image with_row (λ row. bytes_eq row.1.0 word) all_verbs)
 
 -- the verb that a word is read as has this word
 read_has_word : (word : List ℕ) → IfSome (read word) (λ verb. word ≡ verb_text verb)
@@ -82,20 +84,20 @@ row_is_found rows word r are e = go r (read word) (read_has_word word) (ap (opti
     few None h = tt
     few (Some sorts) h = h
 
-    go : (o : Option VerbRow) (v : Option Verb) → IfSome v (λ verb. word ≡ verb_text verb) → option_map row_seen o ≡ option_map row_of v → IfSome o (IsRowOf word)
+    go : (o : Option VerbRow) (v : Option Verb) → IfSome v (λ verb. word ≡ verb_text verb) → option_map row_seen o ≡ option_map with_row v → IfSome o (IsRowOf word)
     go None v is e = tt
     go (Some row) None is e = cc
     go (Some row) (Some verb) is e =
-        let same : row_seen row ≡ row_of verb = some_row (row_seen row) (row_of verb) e in
-        let own : verb ≡ row.verb = sym (ap (λ (x : Row). x.1) same) in
-        let sorts : option_map sorts_seen row.sorts ≡ sorts_of row.verb = ap (λ (x : Row). x.2) same ∙ ap sorts_of own in
+        let same : row_seen row ≡ with_row verb = some_row (row_seen row) (with_row verb) e in
+        let own : verb ≡ row.verb = sym (ap (λ (x : Verb × Row). x.0) same) in
+        let sorts : option_map sorts_seen row.sorts ≡ sorts_of row.verb = ap (λ (x : Verb × Row). x.1.1) same ∙ ap sorts_of own in
         (is ∙ ap verb_text own, sorts, few row.sorts (subst (λ o. IfSome o (λ s. length s.0 ≤ 4)) (sym sorts) (few_sorts row.verb)))
 
 pub no_row : (rows : List VerbRow) (word : List ℕ) (r : Option VerbRow) → AreRows rows
     → r ≡ find (λ row. bytes_eq row.word.now word) rows → IfNone r ((v : Verb) → ¬ (word ≡ verb_text v))
 no_row rows word r are e = go r (read word) refl (ap (option_map row_seen) e ∙ found_row rows word are)
   where
-    go : (o : Option VerbRow) (v : Option Verb) → read word ≡ v → option_map row_seen o ≡ option_map row_of v → IfNone o ((verb : Verb) → ¬ (word ≡ verb_text verb))
+    go : (o : Option VerbRow) (v : Option Verb) → read word ≡ v → option_map row_seen o ≡ option_map with_row v → IfNone o ((verb : Verb) → ¬ (word ≡ verb_text verb))
     go (Some row) v is e = tt
     go None None is e = no_verb word is
     go None (Some verb) is e = cc

@@ -13,8 +13,8 @@ use Rattle.ob_lines.specs.declared.request.Request.TheVariants.{CreateDirectory,
 use Rattle.ob_lines.specs.declared.verb.Verb.{Verb}
 use Rattle.ob_lines.specs.declared.verb.Verb.TheVariants as verb
 use Rattle.ob_parts.specs.Text.{Lacks}
-use Rattle.ob_lines.specs.Grammar.{verb_text, verb_of, IsOperands}
-use Rattle.ob_lines.specs.Verbs.{all_verbs}
+use Rattle.ob_lines.specs.Grammar.{verb_of, IsOperands}
+use Rattle.ob_lines.specs.Verbs.{all_verbs, verb_text}
 use Rattle.ob_parts.proofs.Flagged.{lacks_from_test}
 
 -- the verb that a word is read as, so that no two verbs share a word

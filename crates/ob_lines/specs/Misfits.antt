@@ -14,32 +14,8 @@ use Rattle.ob_lines.specs.declared.misfit.Expected.{Expected}
 use Rattle.ob_lines.specs.declared.misfit.Expected.TheVariants as expected
 use Rattle.ob_lines.specs.declared.misfit.Misfit.{Misfit}
 use Rattle.ob_lines.specs.declared.verb.Verb.{Verb}
-use Rattle.ob_lines.specs.declared.verb.Verb.TheVariants as verb
-use Rattle.ob_lines.specs.Grammar.{IsLine, longest_line, verb_text}
-
--- sorts of parts that have a space after them, in order, and the sort of the last part
-abbrev pub Sorts : Type 0
-Sorts = List PartForm × LastForm
-
--- the sorts of a request's operands, by its verb; `exit` has none
-abbrev pub sorts_of : Verb → Option Sorts
-sorts_of verb.Dir = Some (part.Place ∷ part.Flags ∷ [], last.SetsVariable)
-sorts_of verb.Shadow = Some (part.Handle ∷ part.Place ∷ part.Flags ∷ [], last.SetsVariable)
-sorts_of verb.Link = Some (part.Place ∷ part.Flags ∷ part.Text ∷ [], last.SetsVariable)
-sorts_of verb.Make = Some (part.Kind ∷ part.Place ∷ part.Flags ∷ part.Text ∷ [], last.SetsVariable)
-sorts_of verb.OpenDir = Some (part.Name ∷ part.Flags ∷ [], last.SetsVariable)
-sorts_of verb.OpenLink = Some (part.Name ∷ part.Flags ∷ [], last.SetsVariable)
-sorts_of verb.Open = Some (part.Want ∷ part.Name ∷ part.Flags ∷ [], last.SetsVariable)
-sorts_of verb.Close = Some ([], last.Handle)
-sorts_of verb.Target = Some ([], last.Handle)
-sorts_of verb.Name = Some ([], last.Handle)
-sorts_of verb.List = Some (part.Handle ∷ part.Room ∷ [], last.Mode)
-sorts_of verb.Dup = Some (part.Handle ∷ part.Process ∷ part.Inherit ∷ [], last.SetsVariable)
-sorts_of verb.Temp = Some ([], last.Handle)
-sorts_of verb.Perm = Some ([], last.Handle)
-sorts_of verb.Map = Some ([], last.Handle)
-sorts_of verb.New = Some (part.Inherit ∷ [], last.SetsProcess)
-sorts_of verb.Exit = None
+use Rattle.ob_lines.specs.Grammar.{IsLine, longest_line}
+use Rattle.ob_lines.specs.Verbs.{Sorts, sorts_of, verb_text}
 
 -- the sorts of what follows a word and a space: of a request's verb, or of `begin`, `end` or `drop`
 abbrev pub HasSorts : List ℕ → Sorts → Type 0

@@ -3,7 +3,8 @@
 ghost use Rattle.std.specs.Prelude.{◌≤◌, ℕ, List, length, IfSome, IfNone};
 ghost use Rattle.ob_lines.specs.declared.form.Form.{Form};
 ghost use Rattle.ob_lines.specs.Grammar.{IsLine};
-ghost use Rattle.ob_lines.specs.Misfits.{HasSorts, IsFew, IsMisfit, LinesHaveOneMisfit, Sorts, StopsLine};
+ghost use Rattle.ob_lines.specs.Misfits.{HasSorts, IsFew, IsMisfit, LinesHaveOneMisfit, StopsLine};
+ghost use Rattle.ob_lines.specs.Verbs.{Sorts};
 
 use crate::form::{LONGEST_LINE, form_of};
 use crate::verb::{PartSorts, row_of};

@@ -3,9 +3,7 @@
 ghost use Rattle.std.specs.Prelude.{◌≡◌, ◌≢◌, ◌≤◌, find, length, map, option_map, IfSome, IfNone};
 ghost use Rattle.std.specs.Str.{bytes_eq};
 ghost use Rattle.ob_lines.specs.declared.verb.Verb.{Verb};
-ghost use Rattle.ob_lines.specs.Grammar.{verb_text};
-ghost use Rattle.ob_lines.specs.Misfits.{sorts_of};
-ghost use Rattle.ob_lines.specs.Verbs.{all_verbs, row_of, row_seen};
+ghost use Rattle.ob_lines.specs.Verbs.{all_verbs, row_of, row_seen, sorts_of, verb_text};
 
 use ob_parts::{LastForm, PartForm};
 
@@ -173,7 +171,7 @@ static VERBS: [VerbRow; 17] = [
 
 // The rows of all verbs.
 fn verb_rows() -> &'static [VerbRow]
-    ensures { map row_seen result.now ≡ map row_of all_verbs }
+    ensures { map row_seen result.now ≡ map (λ verb. (verb, row_of verb)) all_verbs }
 {
     &VERBS
 }
