@@ -59,7 +59,7 @@ end_no_verb v = no_verb (codes "end") refl v
 pub drop_no_verb : (v : Verb) → ¬ (codes "drop" ≡ verb_text v)
 drop_no_verb v = no_verb (codes "drop") refl v
 
--- what all verbs pass, each verb passes
+-- a test that all verbs of the list pass is passed by each verb
 pub each_verb : (q : Verb → Bool) → list_all q all_verbs ≡ true → (v : Verb) → q v ≡ true
 each_verb q all v =
     let found : IfSome (read (verb_text v)) (λ x. q x ≡ true) = found_passes (λ x. bytes_eq (verb_text x) (verb_text v)) q all_verbs all in
@@ -104,7 +104,7 @@ Each verb.Map P = (h : HandleForm (List ℕ)) → P (SetDeviceMap h)
 Each verb.New P = (i : Bool) (q : List ℕ) → P (NewProcess i q)
 Each verb.Exit P = P ExitProcess
 
--- what each request of a verb is, is a request of this verb
+-- a predicate of each request of a verb is one of a request of this verb
 of_own : (P : Request (List ℕ) → Type 0) (r : Request (List ℕ)) → Each (verb_of r) P → P r
 of_own P (CreateDirectory p a w) each = each p a w
 of_own P (CreateShadowed h p a w) each = each h p a w

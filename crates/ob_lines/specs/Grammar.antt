@@ -65,7 +65,7 @@ verb_of (SetDeviceMap handle) = verb.Map
 verb_of (NewProcess inherit child) = verb.New
 verb_of ExitProcess = verb.Exit
 
--- what follows the verb of a request and a space: `PLACE FLAGS =V` after `dir`,
+-- the operands of a request, which follow its verb and a space: `PLACE FLAGS =V` after `dir`,
 -- `H PLACE FLAGS =V` after `shadow`, `PLACE FLAGS TEXT =V` after `link`, `KIND PLACE FLAGS TEXT =V` after `make`, `NAME FLAGS =V` after
 -- `opendir` and `openlink`, `WANT NAME FLAGS =V` after `open`, `H` after `close`, `target`, `name`, `temp`,
 -- `perm` and `map`, `H ROOM MODE` after `list`, `H Q plain =V` or `H Q inherit =V` after `dup`, and `plain =Q` or

@@ -2,7 +2,7 @@
 --
 -- A line is read part by part. It stops at the first part that is missing, with the space after it where the form has one.
 -- Source: this profile.
-use Rattle.std.specs.Prelude.{◌≡◌, ◌⊎◌, ℕ, ◌+◌, ◌≤◌, ◌<◌, List, [], ◌∷◌, ◌++◌, length, Option, Some, None, ⊤, codes}
+use Rattle.std.specs.Prelude.{◌≡◌, ◌⊎◌, ℕ, ◌+◌, ◌≤◌, ◌<◌, List, [], ◌∷◌, ◌++◌, length, Some, ⊤, codes}
 use Rattle.ob_parts.specs.declared.sort.PartForm.{PartForm}
 use Rattle.ob_parts.specs.declared.sort.PartForm.TheVariants as part
 use Rattle.ob_parts.specs.declared.sort.LastForm.{LastForm}
@@ -61,7 +61,7 @@ pub record IsMisfit (line : List ℕ) (misfit : Misfit) : Type 0 where
 abbrev pub most_parts : ℕ
 most_parts = 5
 
--- what is expected is no more parts than a form has
+-- an expectation has no more parts than a form
 abbrev pub IsFew : Expected → Type 0
 IsFew expected.Line = ⊤
 IsFew expected.Verb = ⊤
@@ -73,7 +73,7 @@ abbrev pub sorts_text : List PartForm → LastForm → List ℕ
 sorts_text [] last = last_text last
 sorts_text (part ∷ parts) last = part_text part ++ codes " " ++ sorts_text parts last
 
--- what is expected, in the words of docs/script.md, where a line may begin as those of a session do
+-- an expectation in the words of docs/script.md, where a line may begin as those of a session do
 abbrev pub expected_text : Expected → List ℕ
 expected_text expected.Line = codes "P, stat or tree"
 expected_text expected.Verb = codes "a verb and its parts"

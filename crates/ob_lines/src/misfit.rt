@@ -10,7 +10,7 @@ use crate::form::{LONGEST_LINE, form_of};
 use crate::verb::{PartSorts, row_of};
 use ob_parts::{LastForm, PartForm, split_at, stop_of, take_process};
 
-/// The part that should be where a line stops. (this profile)
+/// The part that should be where a line stops.
 #[derive(Clone, Copy, PartialEq, Eq, Debug)]
 pub enum Expected {
     /// A process variable, `stat`, or in a session `tree`.
@@ -28,7 +28,7 @@ pub enum Expected {
     End,
 }
 
-/// Where a line that is no script line stops being one, and what should be there. (this profile)
+/// Where a line that is no script line stops being one, and what should be there.
 #[derive(Clone, Copy, PartialEq, Eq, Debug)]
 pub struct Misfit {
     /// The column of the first byte that is wrong or missing, from 1.
@@ -37,7 +37,7 @@ pub struct Misfit {
     pub expected: Expected,
 }
 
-/// The misfit of a line without its LF; none where it is a script line. (this profile)
+/// The misfit of a line without its LF; none where it is a script line.
 pub fn misfit_of(line: &[u8]) -> Option<Misfit>
     ensures found { IfSome result (λ misfit. IsMisfit line.now misfit) }
     ensures few { IfSome result (λ misfit. IsFew misfit.expected) }
@@ -101,8 +101,8 @@ fn sorts_after(word: &[u8]) -> Option<PartSorts>
     }
 }
 
-/// The law that a line has at most one misfit: two are in the same column, and say that the same was expected. The call does nothing; a caller
-/// makes it to have the fact.
+/// The law that a line has at most one misfit: two misfits of a line are in the same column and expect the same.
+/// The call does nothing; a caller makes it to have the fact.
 pub fn lines_have_one_misfit()
     ensures { LinesHaveOneMisfit }
 {}
