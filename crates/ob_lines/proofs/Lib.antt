@@ -1,4 +1,5 @@
 pub mod Verbs
+pub mod VerbRows
 pub mod LineForms
 pub mod Lined
 pub mod Scripted

@@ -20,7 +20,8 @@ use Rattle.ob_lines.specs.declared.verb.Verb.TheVariants as verb
 use Rattle.ob_parts.specs.Text.{Lacks, IsText}
 use Rattle.ob_parts.specs.Parts.{text_of, BeginsWithName, BeginsWithPlace, BeginsWithRoom, BeginsWithProcess, BeginsWithInherit, IsSetting, SetsProcess, IsFlagsAndVariable, IsFlagsTextAndVariable, IsWantNameFlagsAndVariable, IsPlaceFlagsTextAndVariable}
 use Rattle.ob_lines.specs.Script.{HasForm, found_seen}
-use Rattle.ob_lines.specs.Grammar.{HasPlaceText, HasTexts, PendingHasTexts, FormHasTexts, verb_text, verb_of, IsOperands, IsVerbAndOperands, IsRequest, IsPending, IsHandlePlaceFlagsAndVariable, IsHandleRoomAndMode, IsHandleProcessAndVariable, IsInheritAndProcess, IsIdle, IsLine, LinesHaveOneForm, form_seen}
+use Rattle.ob_lines.specs.Verbs.{verb_text}
+use Rattle.ob_lines.specs.Grammar.{HasPlaceText, HasTexts, PendingHasTexts, FormHasTexts, verb_of, IsOperands, IsVerbAndOperands, IsRequest, IsPending, IsHandlePlaceFlagsAndVariable, IsHandleRoomAndMode, IsHandleProcessAndVariable, IsInheritAndProcess, IsIdle, IsLine, LinesHaveOneForm, form_seen}
 use Rattle.ob_parts.proofs.Cuts.{lacks_no_cut}
 use Rattle.ob_parts.proofs.Flagged.{lacks_from_test}
 use Rattle.ob_parts.proofs.Handles.{handle_alike}
@@ -106,11 +107,11 @@ reads_alone bytes ExitProcess s = absurd s
 operands_alike : (bytes : List ℕ) (a b : Request (List ℕ)) → verb_of a ≡ verb_of b → IsOperands bytes a → IsOperands bytes b → a ≡ b
 operands_alike bytes a b e s = of_verb (λ r. IsOperands bytes r → a ≡ r) (verb_of a) (reads_alone bytes a s) b (sym e)
 
--- a verb and operands that are cut behind the verb are no other
-pub request_parts : (bytes variable rest : List ℕ) (r : Request (List ℕ)) → bytes ≡ variable ++ (0x20 ∷ rest) → Lacks 0x20 variable → IsVerbAndOperands bytes r
-    → (variable ≡ verb_text (verb_of r)) × IsOperands rest r
-request_parts bytes variable rest r e l (operands, f, s) =
-    let same : (variable ≡ verb_text (verb_of r)) × (rest ≡ operands) = spaced_alike bytes variable rest (verb_text (verb_of r)) operands l (verb_lacks (verb_of r)) e f in
+-- a verb and operands that are cut after the verb are no other
+pub request_parts : (bytes word rest : List ℕ) (r : Request (List ℕ)) → bytes ≡ word ++ (0x20 ∷ rest) → Lacks 0x20 word → IsVerbAndOperands bytes r
+    → (word ≡ verb_text (verb_of r)) × IsOperands rest r
+request_parts bytes word rest r e l (operands, f, s) =
+    let same : (word ≡ verb_text (verb_of r)) × (rest ≡ operands) = spaced_alike bytes word rest (verb_text (verb_of r)) operands l (verb_lacks (verb_of r)) e f in
     (same.0, moved (λ x. IsOperands x r) rest operands same.1 s)
 
 pub request_uncut : (bytes : List ℕ) (r : Request (List ℕ)) → Lacks 0x20 bytes → ¬ IsVerbAndOperands bytes r
@@ -118,9 +119,9 @@ request_uncut bytes r l (operands, e, s) =
     lacks_no_cut 0x20 bytes (verb_text (verb_of r)) operands l (spaced bytes (verb_text (verb_of r)) operands e)
 
 -- a verb, a space and its operands are read so
-pub request_joined : (bytes variable rest : List ℕ) (v : Verb) (r : Request (List ℕ)) → bytes ≡ variable ++ (0x20 ∷ rest) → variable ≡ verb_text v → verb_of r ≡ v
+pub request_joined : (bytes word rest : List ℕ) (v : Verb) (r : Request (List ℕ)) → bytes ≡ word ++ (0x20 ∷ rest) → word ≡ verb_text v → verb_of r ≡ v
     → IsOperands rest r → IsVerbAndOperands bytes r
-request_joined bytes variable rest v r e f g s = (rest, e ∙ (rw (f, g) (sym (simp append_assoc))), s)
+request_joined bytes word rest v r e f g s = (rest, e ∙ (rw (f, g) (sym (simp append_assoc))), s)
 
 -- `exit` alone is no verb with operands, and bytes that a test tells apart from it are no `exit`
 alone_no_operands : (bytes : List ℕ) (r : Request (List ℕ)) → bytes ≡ codes "exit" → ¬ IsVerbAndOperands bytes r
@@ -142,7 +143,7 @@ request_alike bytes a b (inl s) (inr t) = absurd (alone_no_operands bytes b s.0 
 request_alike bytes a b (inr s) (inl t) = absurd (alone_no_operands bytes a t.0 s)
 request_alike bytes a b (inr s) (inr t) = spelled_requests_alike bytes a b s t
 
--- what is asked of an open that waits has one reading
+-- a line on a pending open has one reading
 begun_parts : (bytes rest : List ℕ) (k : Option KindForm) (n : NameForm (List ℕ)) (a : ℕ) (w : List ℕ) → bytes ≡ codes "begin " ++ rest
     → IsPending bytes (Begin k n a w) → IsWantNameFlagsAndVariable rest k n a w
 begun_parts bytes rest k n a w e (operands, f, s) = moved (λ x. IsWantNameFlagsAndVariable x k n a w) rest operands (ap (drop 6) (sym e ∙ f)) s
@@ -160,9 +161,9 @@ pending_alike bytes (Drop v) (Begin k n a w) (is, f) (rest, e, s) = absurd (apar
 pending_alike bytes (Drop v) (End w) (is, e) (are, f) = absurd (apart 0x65 0x64 (sym f ∙ e) (omega arith))
 pending_alike bytes (Drop v) (Drop w) (is, e) (are, f) = ap Drop (ap (drop 5) (sym e ∙ f))
 
--- and is no request: neither `exit`, nor a verb with operands
+-- a line on a pending open is no request: neither `exit`, nor a verb with operands
 pending_cut : (bytes : List ℕ) (p : PendingForm (List ℕ)) → IsPending bytes p
-    → (variable rest : List ℕ) × (bytes ≡ variable ++ (0x20 ∷ rest)) × Lacks 0x20 variable × ((v : Verb) → ¬ (variable ≡ verb_text v))
+    → (word rest : List ℕ) × (bytes ≡ word ++ (0x20 ∷ rest)) × Lacks 0x20 word × ((v : Verb) → ¬ (word ≡ verb_text v))
 pending_cut bytes (Begin k n a w) (rest, e, s) = (codes "begin", rest, e, lacks_from_test 0x20 (codes "begin") refl, begin_no_verb)
 pending_cut bytes (End w) (is, e) = (codes "end", w, e, lacks_from_test 0x20 (codes "end") refl, end_no_verb)
 pending_cut bytes (Drop w) (is, e) = (codes "drop", w, e, lacks_from_test 0x20 (codes "drop") refl, drop_no_verb)
@@ -175,7 +176,7 @@ pending_no_request bytes p r s (inr t) =
     let cut = pending_cut bytes p s in
     cut.4 (verb_of r) (request_parts bytes cut.0 cut.1 r cut.2 cut.3 t).0
 
--- bytes that begin with `begin ` and go on otherwise ask nothing of an open that waits
+-- bytes that begin with `begin ` and no operands of it after that are no line on a pending open
 pub begin_alone : (bytes rest : List ℕ) → bytes ≡ codes "begin " ++ rest
     → ((k : Option KindForm) (n : NameForm (List ℕ)) (a : ℕ) (w : List ℕ) → ¬ IsWantNameFlagsAndVariable rest k n a w)
     → (p : PendingForm (List ℕ)) → ¬ IsPending bytes p
@@ -183,7 +184,7 @@ begin_alone bytes rest e none (Begin k n a w) s = none k n a w (begun_parts byte
 begin_alone bytes rest e none (End w) (is, f) = apart 0x62 0x65 (sym e ∙ f) (omega arith)
 begin_alone bytes rest e none (Drop w) (is, f) = apart 0x62 0x64 (sym e ∙ f) (omega arith)
 
--- a line that begins with a process variable asks for what stands behind it
+-- the request of a line, or its request for a pending open, is the rest after the process variable
 pub asks_rest : (line process rest p : List ℕ) (r : Request (List ℕ)) → BeginsWithProcess line process rest → IsLine line (Asks p r) → (process ≡ p) × IsRequest rest r
 asks_rest line process rest p r b (more, c, request, short) =
     let same = process_alike line process rest p more b c in
@@ -238,7 +239,7 @@ line_alike line (Waits p w) (Waits q v) (rest, b, pending, short) t =
     let parts = waits_rest line p rest q v b t in
     rw (parts.0, pending_alike rest w v pending parts.1) refl
 
--- a line that isn't idle, is no `stat`, asks for nothing, and nothing of an open that waits, has no form
+-- a line that isn't idle, isn't `stat`, and has neither a request nor one for a pending open, has no form
 pub no_form : (line : List ℕ) (idle : Bool) → idle ≡ false → (IsLine line Nothing → idle ≡ true) → (line ≡ codes "stat" → ⊥)
     → ((p : List ℕ) (r : Request (List ℕ)) → ¬ IsLine line (Asks p r)) × ((p : List ℕ) (w : PendingForm (List ℕ)) → ¬ IsLine line (Waits p w))
     → (form : Form (List ℕ)) → ¬ IsLine line form
@@ -247,7 +248,7 @@ no_form line idle busy tells stat none (Waits p w) s = none.1 p w s
 no_form line idle busy tells stat none Stat s = stat s
 no_form line idle busy tells stat none Nothing s = let yes : idle ≡ true = tells s in cc
 
--- the texts of what a line asks for are texts
+-- the texts of a line's request are texts
 name_has_text : (bytes : List ℕ) (n : NameForm (List ℕ)) (rest : List ℕ) → BeginsWithName bytes n rest → IsText (text_of n)
 name_has_text bytes (Absolute t) rest b = b.0
 name_has_text bytes (Relative h t) rest (root, more, handle, e, b) = b.0

@@ -5,7 +5,7 @@ use Rattle.std.proofs.lemmas.List.{length-append}
 use Rattle.ob_parts.specs.Text.{Lacks}
 use Rattle.ob_lines.specs.Lines.{lines_of, onto_first_line}
 
--- what stands before the first LF is the first line
+-- the bytes before the first LF are the first line
 pub lines_of-line : (line rest : List ℕ) → Lacks 0x0A line → lines_of (line ++ (0x0A ∷ rest)) ≡ line ∷ lines_of rest
 lines_of-line [] rest l = refl
 lines_of-line (c ∷ line) rest l = rw (ne_eqb c 0x0A l.0, lines_of-line line rest l.1) refl

@@ -1,11 +1,9 @@
 -- Parts that a line has: parts of a verb's sorts are its operands, and with a verb that isn't there the line stops.
-use Rattle.std.proofs.Common.{◌≡◌, ℕ, ◌≤◌, inl, inr, List, [], ◌∷◌, ◌++◌, length, Option, Some, None, IfSome, refl, ap, codes, sym, subst, ◌∙◌}
+use Rattle.std.proofs.Common.{◌≡◌, ℕ, ◌≤◌, inl, inr, List, [], ◌∷◌, ◌++◌, length, Option, Some, IfSome, refl, ap, codes, subst, ◌∙◌}
 use Rattle.ob_parts.specs.declared.kind.KindForm.{KindForm}
 use Rattle.ob_parts.specs.declared.name.NameForm.{NameForm}
 use Rattle.ob_parts.specs.declared.name.PlaceForm.{PlaceForm}
-use Rattle.ob_parts.specs.declared.sort.PartForm.{PartForm}
 use Rattle.ob_parts.specs.declared.sort.PartForm.TheVariants as part
-use Rattle.ob_parts.specs.declared.sort.LastForm.{LastForm}
 use Rattle.ob_parts.specs.declared.sort.LastForm.TheVariants as last
 use Rattle.ob_parts.specs.Text.{Lacks}
 use Rattle.ob_parts.specs.Parts.{BeginsWithProcess, IsFlagsAndVariable, IsFlagsTextAndVariable, IsNameFlagsAndVariable, IsWantNameFlagsAndVariable, IsPlaceFlagsTextAndVariable}
@@ -20,8 +18,9 @@ use Rattle.ob_lines.specs.declared.request.Request.{Request}
 use Rattle.ob_lines.specs.declared.request.Request.TheVariants.{CreateDirectory, CreateShadowed, CreateLink, CreateObject, OpenDirectory, OpenLink, OpenObject, Close, QueryLink, QueryName, QueryDirectory, Duplicate, MakeTemporary, MakePermanent, SetDeviceMap, NewProcess}
 use Rattle.ob_lines.specs.declared.verb.Verb.{Verb}
 use Rattle.ob_lines.specs.declared.verb.Verb.TheVariants as verb
-use Rattle.ob_lines.specs.Grammar.{IsLine, IsOperands, longest_line, verb_of, verb_text}
-use Rattle.ob_lines.specs.Misfits.{HasSorts, IsCutAtSpace, Sorts, sorts_of}
+use Rattle.ob_lines.specs.Grammar.{IsLine, IsOperands, longest_line, verb_of}
+use Rattle.ob_lines.specs.Misfits.{HasSorts, IsCutAtSpace}
+use Rattle.ob_lines.specs.Verbs.{Sorts, sorts_of, verb_text}
 use Rattle.ob_lines.proofs.LineForms.{request_joined}
 use Rattle.ob_lines.proofs.Verbs.{verb_lacks}
 
@@ -32,7 +31,7 @@ sorts_lack word sorts (inr (inl (e, s))) = moved (Lacks 0x20) word (codes "begin
 sorts_lack word sorts (inr (inr (inl e, s))) = moved (Lacks 0x20) word (codes "end") e (lacks_from_test 0x20 (codes "end") refl)
 sorts_lack word sorts (inr (inr (inr e, s))) = moved (Lacks 0x20) word (codes "drop") e (lacks_from_test 0x20 (codes "drop") refl)
 
--- bytes that are cut at their first space behind a word with no sorts are cut behind no other word that has some
+-- bytes that are cut at their first space, after a word with no sorts, are cut after no other word that has some
 pub no_sorts_cut : (bytes word rest : List ℕ) → bytes ≡ word ++ (0x20 ∷ rest) → Lacks 0x20 word → ((sorts : Sorts) → ¬ HasSorts word sorts)
     → (other operands : List ℕ) (sorts : Sorts) → IsCutAtSpace bytes other operands → ¬ HasSorts other sorts
 no_sorts_cut bytes word rest e lacks none other operands sorts (inl f) s =

@@ -61,7 +61,7 @@ have_texts script rest [] b = tt
 have_texts script rest (None ∷ forms) (behind, (line, e, is), b) = have_texts behind rest forms b
 have_texts script rest (Some form ∷ forms) (behind, (line, e, is), b) = (form_has_texts line form is, have_texts behind rest forms b)
 
--- a reading of the whole goes on behind one of the first lines
+-- a reading of the whole goes on after one of the first lines
 read_behind : (s t rest : List ℕ) (done all : Forms) → lines_of s ≡ lines_of t → BeginsWithForms s done rest → BeginsWithForms t all []
     → (later : Forms) × (all ≡ done ++ later) × HaveTexts later
 read_behind s t rest [] all same h k = (all, refl, have_texts t [] all k)

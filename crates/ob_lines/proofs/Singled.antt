@@ -1,11 +1,8 @@
 -- A line that is no script line has one misfit.
-use Rattle.std.proofs.Common.{◌≡◌, ℕ, ◌+◌, ◌<◌, ◌≤◌, ◌⊎◌, inl, inr, List, [], ◌∷◌, ◌++◌, length, Option, Some, None, refl, ap, codes, sym, subst, ◌∙◌, arith}
+use Rattle.std.proofs.Common.{◌≡◌, ℕ, ◌+◌, ◌<◌, ◌≤◌, ◌⊎◌, inl, inr, List, [], ◌++◌, length, Some, refl, ap, codes, sym, subst, ◌∙◌, arith}
 use Rattle.ob_parts.specs.declared.sort.PartForm.{PartForm}
-use Rattle.ob_parts.specs.declared.sort.PartForm.TheVariants as part
 use Rattle.ob_parts.specs.declared.sort.LastForm.{LastForm}
-use Rattle.ob_parts.specs.declared.sort.LastForm.TheVariants as last
 use Rattle.ob_parts.specs.Text.{Lacks}
-use Rattle.ob_parts.specs.Parts.{BeginsWithProcess}
 use Rattle.ob_parts.specs.Stops.{StopsAt}
 use Rattle.ob_parts.proofs.Cuts.{lacks_no_cut}
 use Rattle.ob_parts.proofs.Readings.{differ, moved, spaced, spaced_alike}
@@ -15,42 +12,43 @@ use Rattle.ob_lines.specs.declared.misfit.Expected.{Expected}
 use Rattle.ob_lines.specs.declared.misfit.Expected.TheVariants as expected
 use Rattle.ob_lines.specs.declared.misfit.Misfit.{Misfit}
 use Rattle.ob_lines.specs.declared.verb.Verb.{Verb}
-use Rattle.ob_lines.specs.Grammar.{longest_line, verb_text}
-use Rattle.ob_lines.specs.Misfits.{HasSorts, IsColumn, IsCutAtSpace, IsMisfit, LinesHaveOneMisfit, Sorts, StopsAfterVerb, StopsLine, expected_text, sorts_of, sorts_text}
+use Rattle.ob_lines.specs.Grammar.{longest_line}
+use Rattle.ob_lines.specs.Verbs.{Sorts, sorts_of, verb_text}
+use Rattle.ob_lines.specs.Misfits.{HasSorts, IsColumn, IsCutAtSpace, LinesHaveOneMisfit, StopsAfterVerb, StopsLine, expected_text, sorts_text}
 use Rattle.ob_lines.proofs.Misfitted.{sorts_lack}
 use Rattle.ob_lines.proofs.Verbs.{begin_no_verb, drop_no_verb, end_no_verb, verb_same}
 
--- a variable has one list of sorts
+-- a word has one list of sorts
 some_same : (a b : Sorts) → Some a ≡ Some b → a ≡ b
 some_same a b e = cc
 
 verb_sorts : (v v' : Verb) (a b : Sorts) → verb_text v ≡ verb_text v' → sorts_of v ≡ Some a → sorts_of v' ≡ Some b → a ≡ b
 verb_sorts v v' a b e s t = some_same a b (sym s ∙ (ap sorts_of (verb_same v v' e) ∙ t))
 
-sorts_alike : (variable : List ℕ) (a b : Sorts) → HasSorts variable a → HasSorts variable b → a ≡ b
-sorts_alike variable a b (inl (v, e, s)) (inl (v', f, t)) = verb_sorts v v' a b (sym e ∙ f) s t
-sorts_alike variable a b (inl (v, e, s)) (inr (inl (f, t))) = absurd (begin_no_verb v (sym f ∙ e))
-sorts_alike variable a b (inl (v, e, s)) (inr (inr (inl f, t))) = absurd (end_no_verb v (sym f ∙ e))
-sorts_alike variable a b (inl (v, e, s)) (inr (inr (inr f, t))) = absurd (drop_no_verb v (sym f ∙ e))
-sorts_alike variable a b (inr (inl (e, s))) (inl (v, f, t)) = absurd (begin_no_verb v (sym e ∙ f))
-sorts_alike variable a b (inr (inr (inl e, s))) (inl (v, f, t)) = absurd (end_no_verb v (sym e ∙ f))
-sorts_alike variable a b (inr (inr (inr e, s))) (inl (v, f, t)) = absurd (drop_no_verb v (sym e ∙ f))
-sorts_alike variable a b (inr (inl (e, s))) (inr (inl (f, t))) = s ∙ sym t
-sorts_alike variable a b (inr (inl (e, s))) (inr (inr (inl f, t))) = absurd (differ (codes "begin") (codes "end") refl (sym e ∙ f))
-sorts_alike variable a b (inr (inl (e, s))) (inr (inr (inr f, t))) = absurd (differ (codes "begin") (codes "drop") refl (sym e ∙ f))
-sorts_alike variable a b (inr (inr (inl e, s))) (inr (inl (f, t))) = absurd (differ (codes "end") (codes "begin") refl (sym e ∙ f))
-sorts_alike variable a b (inr (inr (inr e, s))) (inr (inl (f, t))) = absurd (differ (codes "drop") (codes "begin") refl (sym e ∙ f))
-sorts_alike variable a b (inr (inr (e, s))) (inr (inr (f, t))) = s ∙ sym t
+sorts_alike : (word : List ℕ) (a b : Sorts) → HasSorts word a → HasSorts word b → a ≡ b
+sorts_alike word a b (inl (v, e, s)) (inl (v', f, t)) = verb_sorts v v' a b (sym e ∙ f) s t
+sorts_alike word a b (inl (v, e, s)) (inr (inl (f, t))) = absurd (begin_no_verb v (sym f ∙ e))
+sorts_alike word a b (inl (v, e, s)) (inr (inr (inl f, t))) = absurd (end_no_verb v (sym f ∙ e))
+sorts_alike word a b (inl (v, e, s)) (inr (inr (inr f, t))) = absurd (drop_no_verb v (sym f ∙ e))
+sorts_alike word a b (inr (inl (e, s))) (inl (v, f, t)) = absurd (begin_no_verb v (sym e ∙ f))
+sorts_alike word a b (inr (inr (inl e, s))) (inl (v, f, t)) = absurd (end_no_verb v (sym e ∙ f))
+sorts_alike word a b (inr (inr (inr e, s))) (inl (v, f, t)) = absurd (drop_no_verb v (sym e ∙ f))
+sorts_alike word a b (inr (inl (e, s))) (inr (inl (f, t))) = s ∙ sym t
+sorts_alike word a b (inr (inl (e, s))) (inr (inr (inl f, t))) = absurd (differ (codes "begin") (codes "end") refl (sym e ∙ f))
+sorts_alike word a b (inr (inl (e, s))) (inr (inr (inr f, t))) = absurd (differ (codes "begin") (codes "drop") refl (sym e ∙ f))
+sorts_alike word a b (inr (inr (inl e, s))) (inr (inl (f, t))) = absurd (differ (codes "end") (codes "begin") refl (sym e ∙ f))
+sorts_alike word a b (inr (inr (inr e, s))) (inr (inl (f, t))) = absurd (differ (codes "drop") (codes "begin") refl (sym e ∙ f))
+sorts_alike word a b (inr (inr (e, s))) (inr (inr (f, t))) = s ∙ sym t
 
--- bytes are cut behind one variable that has sorts
-variables_alike : (bytes variable operands variable' operands' : List ℕ) (a b : Sorts) → HasSorts variable a → HasSorts variable' b → bytes ≡ variable ++ codes " " ++ operands
-    → bytes ≡ variable' ++ codes " " ++ operands' → (variable ≡ variable') × (operands ≡ operands')
-variables_alike bytes variable operands variable' operands' a b s t e f =
-    spaced_alike bytes variable operands variable' operands' (sorts_lack variable a s) (sorts_lack variable' b t) (spaced bytes variable operands e) f
+-- bytes are cut after one word that has sorts
+words_alike : (bytes word operands word' operands' : List ℕ) (a b : Sorts) → HasSorts word a → HasSorts word' b → bytes ≡ word ++ codes " " ++ operands
+    → bytes ≡ word' ++ codes " " ++ operands' → (word ≡ word') × (operands ≡ operands')
+words_alike bytes word operands word' operands' a b s t e f =
+    spaced_alike bytes word operands word' operands' (sorts_lack word a s) (sorts_lack word' b t) (spaced bytes word operands e) f
 
-no_cut_alone : (bytes variable variable' operands : List ℕ) (a : Sorts) → HasSorts variable a → bytes ≡ variable → bytes ≡ variable' ++ codes " " ++ operands → ⊥
-no_cut_alone bytes variable variable' operands a s e f =
-    lacks_no_cut 0x20 bytes variable' operands (moved (Lacks 0x20) bytes variable e (sorts_lack variable a s)) (spaced bytes variable' operands f)
+no_cut_alone : (bytes word word' operands : List ℕ) (a : Sorts) → HasSorts word a → bytes ≡ word → bytes ≡ word' ++ codes " " ++ operands → ⊥
+no_cut_alone bytes word word' operands a s e f =
+    lacks_no_cut 0x20 bytes word' operands (moved (Lacks 0x20) bytes word e (sorts_lack word a s)) (spaced bytes word' operands f)
 
 -- so bytes after a process variable stop in one place
 ends_of : (a b : Sorts) → a ≡ b → (a.0 ≡ b.0) × (a.1 ≡ b.1)
@@ -72,18 +70,18 @@ after_alike bytes left left' l l' rest rest' (w, p, s, inl (e, f, r)) (w', p', t
 after_alike bytes left left' l l' rest rest' (w, p, s, inl (e, f, r)) (w', p', t, inr (ops, e', stop)) = absurd (no_cut_alone bytes w w' ops (p, l) s e e')
 after_alike bytes left left' l l' rest rest' (w, p, s, inr (ops, e, stop)) (w', p', t, inl (e', f, r)) = absurd (no_cut_alone bytes w' w ops (p', l') t e' e)
 after_alike bytes left left' l l' rest rest' (w, p, s, inr (ops, e, stop)) (w', p', t, inr (ops', e', stop')) =
-    let variables = variables_alike bytes w ops w' ops' (p, l) (p', l') s t e e' in
-    let same = ends_of (p, l) (p', l') (sorts_alike w (p, l) (p', l') s (moved (λ x. HasSorts x (p', l')) w w' variables.0 t)) in
-    let stops = same_stop p p' l l' left left' ops ops' rest rest' same.0 same.1 variables.1 stop stop' in
+    let words = words_alike bytes w ops w' ops' (p, l) (p', l') s t e e' in
+    let same = ends_of (p, l) (p', l') (sorts_alike w (p, l) (p', l') s (moved (λ x. HasSorts x (p', l')) w w' words.0 t)) in
+    let stops = same_stop p p' l l' left left' ops ops' rest rest' same.0 same.1 words.1 stop stop' in
     (stops.0, same.1, stops.1)
 
 -- where a verb with operands is missing, bytes don't stop after one
-no_verb_after : (bytes rest : List ℕ) (left : Sorts) → ((variable operands : List ℕ) (sorts : Sorts) → IsCutAtSpace bytes variable operands → ¬ HasSorts variable sorts)
+no_verb_after : (bytes rest : List ℕ) (left : Sorts) → ((word operands : List ℕ) (sorts : Sorts) → IsCutAtSpace bytes word operands → ¬ HasSorts word sorts)
     → ¬ StopsAfterVerb bytes left rest
 no_verb_after bytes rest left none (w, p, s, inl (e, f, r)) = none w [] (p, left.1) (inr (e, refl)) s
 no_verb_after bytes rest left none (w, p, s, inr (ops, e, stop)) = none w ops (p, left.1) (inl e) s
 
--- what a line should go on with, and where, is one thing
+-- a line stops in one place and expects one thing there
 texts_same : (parts parts' : List PartForm) (l l' : LastForm) → parts ≡ parts' → l ≡ l' → sorts_text parts l ≡ sorts_text parts' l'
 texts_same parts parts' l l' p q = rw (p, q) refl
 

@@ -1,7 +1,7 @@
 -- Verbs: their words, and the requests of each.
-use Rattle.std.proofs.Common.{◌≡◌, ℕ, Bool, false, List, Option, if◌then◌else◌, refl, ap, sym, subst, ◌∙◌, codes}
-use Rattle.std.proofs.lemmas.Bool.{both_ways}
-use Rattle.std.proofs.lemmas.Slice.Eq.{bytes_eq-Decides}
+use Rattle.std.proofs.Common.{◌≡◌, ℕ, Bool, true, false, not, cond, eqb, List, [], ◌∷◌, find, Option, None, Some, IfSome, refl, ap, sym, subst, ◌∙◌, codes}
+use Rattle.std.proofs.lemmas.Bool.{and_parts}
+use Rattle.std.specs.List.{list_all, list_any}
 use Rattle.std.specs.Str.{bytes_eq}
 use Rattle.ob_parts.specs.declared.handle.HandleForm.{HandleForm}
 use Rattle.ob_parts.specs.declared.kind.KindForm.{KindForm}
@@ -13,52 +13,15 @@ use Rattle.ob_lines.specs.declared.request.Request.TheVariants.{CreateDirectory,
 use Rattle.ob_lines.specs.declared.verb.Verb.{Verb}
 use Rattle.ob_lines.specs.declared.verb.Verb.TheVariants as verb
 use Rattle.ob_parts.specs.Text.{Lacks}
-use Rattle.ob_lines.specs.Grammar.{verb_text, verb_of, IsOperands}
+use Rattle.ob_lines.specs.Grammar.{verb_of, IsOperands}
+use Rattle.ob_lines.specs.Verbs.{all_verbs, verb_text}
 use Rattle.ob_parts.proofs.Flagged.{lacks_from_test}
 
--- the words of verbs have no space
-pub verb_lacks : (v : Verb) → Lacks 0x20 (verb_text v)
-verb_lacks verb.Dir = lacks_from_test 0x20 (codes "dir") refl
-verb_lacks verb.Shadow = lacks_from_test 0x20 (codes "shadow") refl
-verb_lacks verb.Link = lacks_from_test 0x20 (codes "link") refl
-verb_lacks verb.Make = lacks_from_test 0x20 (codes "make") refl
-verb_lacks verb.OpenDir = lacks_from_test 0x20 (codes "opendir") refl
-verb_lacks verb.OpenLink = lacks_from_test 0x20 (codes "openlink") refl
-verb_lacks verb.Open = lacks_from_test 0x20 (codes "open") refl
-verb_lacks verb.Close = lacks_from_test 0x20 (codes "close") refl
-verb_lacks verb.Target = lacks_from_test 0x20 (codes "target") refl
-verb_lacks verb.Name = lacks_from_test 0x20 (codes "name") refl
-verb_lacks verb.List = lacks_from_test 0x20 (codes "list") refl
-verb_lacks verb.Dup = lacks_from_test 0x20 (codes "dup") refl
-verb_lacks verb.Temp = lacks_from_test 0x20 (codes "temp") refl
-verb_lacks verb.Perm = lacks_from_test 0x20 (codes "perm") refl
-verb_lacks verb.Map = lacks_from_test 0x20 (codes "map") refl
-verb_lacks verb.New = lacks_from_test 0x20 (codes "new") refl
-verb_lacks verb.Exit = lacks_from_test 0x20 (codes "exit") refl
-
 -- the verb that a word is read as, so that no two verbs share a word
-read : List ℕ → Verb
-read word =
-    if bytes_eq word (codes "dir") then verb.Dir
-    else if bytes_eq word (codes "shadow") then verb.Shadow
-    else if bytes_eq word (codes "link") then verb.Link
-    else if bytes_eq word (codes "make") then verb.Make
-    else if bytes_eq word (codes "opendir") then verb.OpenDir
-    else if bytes_eq word (codes "openlink") then verb.OpenLink
-    else if bytes_eq word (codes "open") then verb.Open
-    else if bytes_eq word (codes "close") then verb.Close
-    else if bytes_eq word (codes "target") then verb.Target
-    else if bytes_eq word (codes "name") then verb.Name
-    else if bytes_eq word (codes "list") then verb.List
-    else if bytes_eq word (codes "dup") then verb.Dup
-    else if bytes_eq word (codes "temp") then verb.Temp
-    else if bytes_eq word (codes "perm") then verb.Perm
-    else if bytes_eq word (codes "map") then verb.Map
-    else if bytes_eq word (codes "new") then verb.New
-    else verb.Exit
+abbrev pub read : List ℕ → Option Verb
+read word = find (λ v. bytes_eq (verb_text v) word) all_verbs
 
-reads_back : (v : Verb) → read (verb_text v) ≡ v
-unfolding read
+reads_back : (v : Verb) → read (verb_text v) ≡ Some v
 reads_back verb.Dir = refl
 reads_back verb.Shadow = refl
 reads_back verb.Link = refl
@@ -77,26 +40,49 @@ reads_back verb.Map = refl
 reads_back verb.New = refl
 reads_back verb.Exit = refl
 
-pub verb_same : (a b : Verb) → verb_text a ≡ verb_text b → a ≡ b
-verb_same a b e = sym (reads_back a) ∙ (ap read e ∙ reads_back b)
+some_verb : (a b : Verb) → Some a ≡ Some b → a ≡ b
+some_verb a b e = cc
 
--- a word that is read as a verb with another word is the word of no verb
-no_verb : (word : List ℕ) (v : Verb) → bytes_eq word (verb_text (read word)) ≡ false → ¬ (word ≡ verb_text v)
-no_verb word v told e =
-    let own : read word ≡ v = ap read e ∙ reads_back v in
-    both_ways _ told ((bytes_eq-Decides word (verb_text (read word))).1 (e ∙ ap verb_text (sym own)))
+pub verb_same : (a b : Verb) → verb_text a ≡ verb_text b → a ≡ b
+verb_same a b e = some_verb a b (sym (reads_back a) ∙ (ap read e ∙ reads_back b))
+
+-- a word that is read as no verb is the word of none
+pub no_verb : (word : List ℕ) → read word ≡ None → (v : Verb) → ¬ (word ≡ verb_text v)
+no_verb word none v e = let found : read word ≡ Some v = ap read e ∙ reads_back v in cc
 
 pub begin_no_verb : (v : Verb) → ¬ (codes "begin" ≡ verb_text v)
-unfolding read
-begin_no_verb v = no_verb (codes "begin") v refl
+begin_no_verb v = no_verb (codes "begin") refl v
 
 pub end_no_verb : (v : Verb) → ¬ (codes "end" ≡ verb_text v)
-unfolding read
-end_no_verb v = no_verb (codes "end") v refl
+end_no_verb v = no_verb (codes "end") refl v
 
 pub drop_no_verb : (v : Verb) → ¬ (codes "drop" ≡ verb_text v)
-unfolding read
-drop_no_verb v = no_verb (codes "drop") v refl
+drop_no_verb v = no_verb (codes "drop") refl v
+
+-- a test that all verbs of the list pass is passed by each verb
+pub each_verb : (q : Verb → Bool) → list_all q all_verbs ≡ true → (v : Verb) → q v ≡ true
+each_verb q all v =
+    let found : IfSome (read (verb_text v)) (λ x. q x ≡ true) = found_passes (λ x. bytes_eq (verb_text x) (verb_text v)) q all_verbs all in
+    let own : IfSome (Some v) (λ x. q x ≡ true) = subst (λ o. IfSome o (λ x. q x ≡ true)) (reads_back v) found in
+    own
+  where
+    found_passes : (p q : Verb → Bool) (xs : List Verb) → list_all q xs ≡ true → IfSome (find p xs) (λ x. q x ≡ true)
+    found_passes p q [] all = tt
+    found_passes p q (x ∷ xs) all =
+        let parts : (q x ≡ true) × (list_all q xs ≡ true) = and_parts (q x) (list_all q xs) all in
+        go (p x) parts.0 (found_passes p q xs parts.1)
+      where
+        go : (b : Bool) → q x ≡ true → IfSome (find p xs) (λ y. q y ≡ true) → IfSome (cond b (Some x) (find p xs)) (λ y. q y ≡ true)
+        go true own more = own
+        go false own more = more
+
+-- the words of verbs have no space
+pub verb_lacks : (v : Verb) → Lacks 0x20 (verb_text v)
+verb_lacks v = lacks_from_test 0x20 (verb_text v) (no_true _ (each_verb (λ x. not (list_any (λ b. eqb b 0x20) (verb_text x))) refl v))
+  where
+    no_true : (b : Bool) → not b ≡ true → b ≡ false
+    no_true true e = cc
+    no_true false e = refl
 
 -- each request of a verb is so
 abbrev pub Each : Verb → (Request (List ℕ) → Type 0) → Type 0
@@ -118,7 +104,7 @@ Each verb.Map P = (h : HandleForm (List ℕ)) → P (SetDeviceMap h)
 Each verb.New P = (i : Bool) (q : List ℕ) → P (NewProcess i q)
 Each verb.Exit P = P ExitProcess
 
--- what each request of a verb is, is a request of this verb
+-- a predicate of each request of a verb is one of a request of this verb
 of_own : (P : Request (List ℕ) → Type 0) (r : Request (List ℕ)) → Each (verb_of r) P → P r
 of_own P (CreateDirectory p a w) each = each p a w
 of_own P (CreateShadowed h p a w) each = each h p a w

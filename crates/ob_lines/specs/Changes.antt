@@ -8,7 +8,7 @@ use Rattle.ob_lines.specs.declared.change.Change.TheVariants.{Nothing, Sets, Set
 use Rattle.ob_lines.specs.declared.request.Request.{Request}
 use Rattle.ob_lines.specs.declared.request.Request.TheVariants.{CreateDirectory, CreateShadowed, CreateLink, CreateObject, OpenDirectory, OpenLink, OpenObject, Close, QueryLink, QueryName, QueryDirectory, Duplicate, MakeTemporary, MakePermanent, SetDeviceMap, NewProcess, ExitProcess}
 
--- what the reply to a request changes
+-- the variables that the reply to a request changes
 abbrev pub change_of : Request (List ℕ) → Change (List ℕ)
 change_of (CreateDirectory place attrs variable) = Sets variable
 change_of (CreateShadowed shadow place attrs variable) = Sets variable

@@ -16,6 +16,7 @@ use Rattle.ob_lines.specs.declared.request.Request.{Request}
 use Rattle.ob_lines.specs.declared.request.Request.TheVariants.{CreateDirectory, CreateShadowed, CreateLink, CreateObject, OpenDirectory, OpenLink, OpenObject, Close, QueryLink, QueryName, QueryDirectory, Duplicate, MakeTemporary, MakePermanent, SetDeviceMap, NewProcess, ExitProcess}
 use Rattle.ob_lines.specs.declared.verb.Verb.{Verb}
 use Rattle.ob_lines.specs.declared.verb.Verb.TheVariants as verb
+use Rattle.ob_lines.specs.Verbs.{verb_text}
 use Rattle.ob_parts.specs.Text.{IsText, IsVariable}
 use Rattle.ob_parts.specs.Pages.{mode_text}
 use Rattle.ob_parts.specs.Parts.{IsHandle, BeginsWithHandle, BeginsWithPlace, BeginsWithKind, BeginsWithRoom, BeginsWithProcess, BeginsWithInherit, IsSetting, SetsProcess, IsFlagsAndVariable, IsNameFlagsAndVariable, IsWantNameFlagsAndVariable, IsPlaceFlagsTextAndVariable, text_of, handle_seen, name_seen, place_seen}
@@ -44,26 +45,6 @@ IsHandleProcessAndVariable bytes handle process inherit variable =
 abbrev pub IsInheritAndProcess : List ℕ → Bool → List ℕ → Type 0
 IsInheritAndProcess bytes inherit process = (rest : List ℕ) × BeginsWithInherit bytes inherit rest × SetsProcess rest process
 
--- the variable of a verb
-abbrev pub verb_text : Verb → List ℕ
-verb_text verb.Dir = codes "dir"
-verb_text verb.Shadow = codes "shadow"
-verb_text verb.Link = codes "link"
-verb_text verb.Make = codes "make"
-verb_text verb.OpenDir = codes "opendir"
-verb_text verb.OpenLink = codes "openlink"
-verb_text verb.Open = codes "open"
-verb_text verb.Close = codes "close"
-verb_text verb.Target = codes "target"
-verb_text verb.Name = codes "name"
-verb_text verb.List = codes "list"
-verb_text verb.Dup = codes "dup"
-verb_text verb.Temp = codes "temp"
-verb_text verb.Perm = codes "perm"
-verb_text verb.Map = codes "map"
-verb_text verb.New = codes "new"
-verb_text verb.Exit = codes "exit"
-
 -- the verb of a request
 abbrev pub verb_of : Request (List ℕ) → Verb
 verb_of (CreateDirectory place attrs variable) = verb.Dir
@@ -84,7 +65,7 @@ verb_of (SetDeviceMap handle) = verb.Map
 verb_of (NewProcess inherit child) = verb.New
 verb_of ExitProcess = verb.Exit
 
--- what follows the verb of a request and a space: `PLACE FLAGS =V` after `dir`,
+-- the operands of a request, which follow its verb and a space: `PLACE FLAGS =V` after `dir`,
 -- `H PLACE FLAGS =V` after `shadow`, `PLACE FLAGS TEXT =V` after `link`, `KIND PLACE FLAGS TEXT =V` after `make`, `NAME FLAGS =V` after
 -- `opendir` and `openlink`, `WANT NAME FLAGS =V` after `open`, `H` after `close`, `target`, `name`, `temp`,
 -- `perm` and `map`, `H ROOM MODE` after `list`, `H Q plain =V` or `H Q inherit =V` after `dup`, and `plain =Q` or

@@ -3,3 +3,4 @@ pub mod Grammar
 pub mod Changes
 pub mod Script
 pub mod Misfits
+pub mod Verbs

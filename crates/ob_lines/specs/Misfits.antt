@@ -2,7 +2,7 @@
 --
 -- A line is read part by part. It stops at the first part that is missing, with the space after it where the form has one.
 -- Source: this profile.
-use Rattle.std.specs.Prelude.{◌≡◌, ◌⊎◌, ℕ, ◌+◌, ◌≤◌, ◌<◌, List, [], ◌∷◌, ◌++◌, length, Option, Some, None, ⊤, codes}
+use Rattle.std.specs.Prelude.{◌≡◌, ◌⊎◌, ℕ, ◌+◌, ◌≤◌, ◌<◌, List, [], ◌∷◌, ◌++◌, length, Some, ⊤, codes}
 use Rattle.ob_parts.specs.declared.sort.PartForm.{PartForm}
 use Rattle.ob_parts.specs.declared.sort.PartForm.TheVariants as part
 use Rattle.ob_parts.specs.declared.sort.LastForm.{LastForm}
@@ -14,32 +14,8 @@ use Rattle.ob_lines.specs.declared.misfit.Expected.{Expected}
 use Rattle.ob_lines.specs.declared.misfit.Expected.TheVariants as expected
 use Rattle.ob_lines.specs.declared.misfit.Misfit.{Misfit}
 use Rattle.ob_lines.specs.declared.verb.Verb.{Verb}
-use Rattle.ob_lines.specs.declared.verb.Verb.TheVariants as verb
-use Rattle.ob_lines.specs.Grammar.{IsLine, longest_line, verb_text}
-
--- sorts of parts that have a space after them, in order, and the sort of the last part
-abbrev pub Sorts : Type 0
-Sorts = List PartForm × LastForm
-
--- the sorts of a request's operands, by its verb; `exit` has none
-abbrev pub sorts_of : Verb → Option Sorts
-sorts_of verb.Dir = Some (part.Place ∷ part.Flags ∷ [], last.SetsVariable)
-sorts_of verb.Shadow = Some (part.Handle ∷ part.Place ∷ part.Flags ∷ [], last.SetsVariable)
-sorts_of verb.Link = Some (part.Place ∷ part.Flags ∷ part.Text ∷ [], last.SetsVariable)
-sorts_of verb.Make = Some (part.Kind ∷ part.Place ∷ part.Flags ∷ part.Text ∷ [], last.SetsVariable)
-sorts_of verb.OpenDir = Some (part.Name ∷ part.Flags ∷ [], last.SetsVariable)
-sorts_of verb.OpenLink = Some (part.Name ∷ part.Flags ∷ [], last.SetsVariable)
-sorts_of verb.Open = Some (part.Want ∷ part.Name ∷ part.Flags ∷ [], last.SetsVariable)
-sorts_of verb.Close = Some ([], last.Handle)
-sorts_of verb.Target = Some ([], last.Handle)
-sorts_of verb.Name = Some ([], last.Handle)
-sorts_of verb.List = Some (part.Handle ∷ part.Room ∷ [], last.Mode)
-sorts_of verb.Dup = Some (part.Handle ∷ part.Process ∷ part.Inherit ∷ [], last.SetsVariable)
-sorts_of verb.Temp = Some ([], last.Handle)
-sorts_of verb.Perm = Some ([], last.Handle)
-sorts_of verb.Map = Some ([], last.Handle)
-sorts_of verb.New = Some (part.Inherit ∷ [], last.SetsProcess)
-sorts_of verb.Exit = None
+use Rattle.ob_lines.specs.Grammar.{IsLine, longest_line}
+use Rattle.ob_lines.specs.Verbs.{Sorts, sorts_of, verb_text}
 
 -- the sorts of what follows a word and a space: of a request's verb, or of `begin`, `end` or `drop`
 abbrev pub HasSorts : List ℕ → Sorts → Type 0
@@ -85,7 +61,7 @@ pub record IsMisfit (line : List ℕ) (misfit : Misfit) : Type 0 where
 abbrev pub most_parts : ℕ
 most_parts = 5
 
--- what is expected is no more parts than a form has
+-- an expectation has no more parts than a form
 abbrev pub IsFew : Expected → Type 0
 IsFew expected.Line = ⊤
 IsFew expected.Verb = ⊤
@@ -97,7 +73,7 @@ abbrev pub sorts_text : List PartForm → LastForm → List ℕ
 sorts_text [] last = last_text last
 sorts_text (part ∷ parts) last = part_text part ++ codes " " ++ sorts_text parts last
 
--- what is expected, in the words of docs/script.md, where a line may begin as those of a session do
+-- an expectation in the words of docs/script.md, where a line may begin as those of a session do
 abbrev pub expected_text : Expected → List ℕ
 expected_text expected.Line = codes "P, stat or tree"
 expected_text expected.Verb = codes "a verb and its parts"

@@ -34,7 +34,7 @@ abbrev pub ScriptsHaveOneReading : Type 0
 ScriptsHaveOneReading =
     (script x y : List ℕ) (a b : Forms) → BeginsWithForms script a x → BeginsWithForms script b y → length a ≤ length b → a ≡ take (length a) b
 
--- what was found, whose slices of bytes are seen as the lists that they hold
+-- a form that was found, or none, whose slices of bytes are seen as the lists that they hold
 abbrev pub found_seen : Option (Form (Bor (List ℕ))) → Option (Form (List ℕ))
 found_seen None = None
 found_seen (Some form) = Some (form_seen form)

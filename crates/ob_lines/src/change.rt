@@ -10,7 +10,7 @@ use crate::request::Request;
 /// line, or, in contracts, as lists.
 #[derive(Clone, Copy, PartialEq, Eq, Debug)]
 pub enum Change<T> {
-    /// None: of a query, of an object that is made temporary or permanent, and of a device map that is set.
+    /// No variable: the request is a query, makes an object temporary or permanent, or sets a device map.
     Nothing,
     /// `=V` of a create or an open: this handle variable of the requesting process is set to the handle that
     /// was given, or to 0 where none was given.
@@ -42,7 +42,7 @@ pub enum Change<T> {
 }
 
 /// The variables that the reply to a request changes. A `dup` with inheritance and one without change the
-/// same. Source: this profile.
+/// same.
 pub fn change_of<'a>(request: &Request<&'a [u8]>) -> Change<&'a [u8]>
     ensures { change_seen result ≡ change_of (request_seen request.now) }
 {

@@ -10,7 +10,7 @@ use crate::pending::{PendingForm, pending_of};
 use crate::request::{Request, request_of};
 use ob_parts::take_process;
 
-/// The most bytes that a line may have, without its LF: 262,144. (this profile)
+/// The most bytes that a line may have, without its LF: 262,144.
 pub const LONGEST_LINE: usize = 262_144;
 
 /// The form of a line. `T` is how bytes are held: as slices of the line, or, in contracts, as lists.
@@ -44,7 +44,7 @@ fn is_idle(line: &[u8]) -> bool
 }
 
 /// The form of a line without its LF: none where it is no line of a script, as one of more than
-/// 262,144 bytes. Source: this profile.
+/// 262,144 bytes.
 pub fn form_of(line: &[u8]) -> Option<Form<&[u8]>>
     ensures found { IfSome result (λ form. IsLine line.now (form_seen form)) }
     ensures none { IfNone result ((form : Form (List ℕ)) → ¬ IsLine line.now form) }

@@ -3,7 +3,7 @@
 //! A script is bytes, which LF cuts into lines. Each line has at most one form, which the parser finds
 //! where there is one; a form names its variables and texts as slices of the line. The parts of which a line
 //! is made are in `ob_parts`. Nothing here knows what the variables hold, and no namespace is needed.
-//! docs/script.md has the language.
+//! docs/script.md has the language. Source of all rules: this profile.
 #![tactic(auto)]
 
 mod change;

@@ -1,15 +1,16 @@
 //! Where a line that is no script line stops being one.
 
-ghost use Rattle.std.specs.Prelude.{◌≡◌, ◌≤◌, ℕ, List, length, option_map, IfSome, IfNone};
+ghost use Rattle.std.specs.Prelude.{◌≤◌, ℕ, List, length, IfSome, IfNone};
 ghost use Rattle.ob_lines.specs.declared.form.Form.{Form};
 ghost use Rattle.ob_lines.specs.Grammar.{IsLine};
-ghost use Rattle.ob_lines.specs.Misfits.{HasSorts, IsFew, IsMisfit, LinesHaveOneMisfit, Sorts, StopsLine, sorts_of};
+ghost use Rattle.ob_lines.specs.Misfits.{HasSorts, IsFew, IsMisfit, LinesHaveOneMisfit, StopsLine};
+ghost use Rattle.ob_lines.specs.Verbs.{Sorts};
 
 use crate::form::{LONGEST_LINE, form_of};
-use crate::verb::{Verb, verb_of};
+use crate::verb::{PartSorts, row_of};
 use ob_parts::{LastForm, PartForm, split_at, stop_of, take_process};
 
-/// The part that should be where a line stops. (this profile)
+/// The part that should be where a line stops.
 #[derive(Clone, Copy, PartialEq, Eq, Debug)]
 pub enum Expected {
     /// A process variable, `stat`, or in a session `tree`.
@@ -27,7 +28,7 @@ pub enum Expected {
     End,
 }
 
-/// Where a line that is no script line stops being one, and what should be there. (this profile)
+/// Where a line that is no script line stops being one, and what should be there.
 #[derive(Clone, Copy, PartialEq, Eq, Debug)]
 pub struct Misfit {
     /// The column of the first byte that is wrong or missing, from 1.
@@ -36,7 +37,7 @@ pub struct Misfit {
     pub expected: Expected,
 }
 
-/// The misfit of a line without its LF; none where it is a script line. (this profile)
+/// The misfit of a line without its LF; none where it is a script line.
 pub fn misfit_of(line: &[u8]) -> Option<Misfit>
     ensures found { IfSome result (λ misfit. IsMisfit line.now misfit) }
     ensures few { IfSome result (λ misfit. IsFew misfit.expected) }
@@ -85,7 +86,7 @@ fn stop_in(line: &[u8]) -> (Expected, &[u8])
 }
 
 // The sorts of what follows a word and a space.
-fn sorts_after(word: &[u8]) -> Option<(&'static [PartForm], LastForm)>
+fn sorts_after(word: &[u8]) -> Option<PartSorts>
     ensures found { IfSome result (λ sorts. HasSorts word.now (sorts.0.now, sorts.1)) }
     ensures few { IfSome result (λ sorts. length sorts.0.now ≤ 4) }
     ensures none { IfNone result ((sorts : Sorts) → ¬ HasSorts word.now sorts) }
@@ -96,57 +97,12 @@ fn sorts_after(word: &[u8]) -> Option<(&'static [PartForm], LastForm)>
             LastForm::SetsVariable,
         )),
         b"end" | b"drop" => Some((&[], LastForm::Variable)),
-        _ => sorts_of(verb_of(word)?),
+        _ => row_of(word)?.sorts,
     }
 }
 
-// The sorts of a request's operands, by its verb.
-fn sorts_of(verb: Verb) -> Option<(&'static [PartForm], LastForm)>
-    ensures sorts { option_map (λ sorts. (sorts.0.now, sorts.1)) result ≡ sorts_of verb }
-    ensures few { IfSome result (λ sorts. length sorts.0.now ≤ 4) }
-{
-    let sorts: (&'static [PartForm], LastForm) = match verb {
-        Verb::Dir => (&[PartForm::Place, PartForm::Flags], LastForm::SetsVariable),
-        Verb::Shadow => (
-            &[PartForm::Handle, PartForm::Place, PartForm::Flags],
-            LastForm::SetsVariable,
-        ),
-        Verb::Link => (
-            &[PartForm::Place, PartForm::Flags, PartForm::Text],
-            LastForm::SetsVariable,
-        ),
-        Verb::Make => (
-            &[
-                PartForm::Kind,
-                PartForm::Place,
-                PartForm::Flags,
-                PartForm::Text,
-            ],
-            LastForm::SetsVariable,
-        ),
-        Verb::OpenDir | Verb::OpenLink => {
-            (&[PartForm::Name, PartForm::Flags], LastForm::SetsVariable)
-        }
-        Verb::Open => (
-            &[PartForm::Want, PartForm::Name, PartForm::Flags],
-            LastForm::SetsVariable,
-        ),
-        Verb::Close | Verb::Target | Verb::Name | Verb::Temp | Verb::Perm | Verb::Map => {
-            (&[], LastForm::Handle)
-        }
-        Verb::List => (&[PartForm::Handle, PartForm::Room], LastForm::Mode),
-        Verb::Dup => (
-            &[PartForm::Handle, PartForm::Process, PartForm::Inherit],
-            LastForm::SetsVariable,
-        ),
-        Verb::New => (&[PartForm::Inherit], LastForm::SetsProcess),
-        Verb::Exit => return None,
-    };
-    Some(sorts)
-}
-
-/// The law that a line has at most one misfit: two are in the same column, and say that the same was expected. The call does nothing; a caller
-/// makes it to have the fact.
+/// The law that a line has at most one misfit: two misfits of a line are in the same column and expect the same.
+/// The call does nothing; a caller makes it to have the fact.
 pub fn lines_have_one_misfit()
     ensures { LinesHaveOneMisfit }
 {}

@@ -7,7 +7,7 @@ ghost use Rattle.ob_lines.specs.Grammar.{IsPending, pending_seen};
 use ob_parts::{KindForm, NameForm, behind, is_variable, want_name_flags_and_variable};
 
 /// The request of a line for a pending open. `T` is how bytes are held: as slices of the
-/// line, or, in contracts, as lists. (this profile)
+/// line, or, in contracts, as lists.
 #[derive(Clone, Copy, PartialEq, Eq, Debug)]
 pub enum PendingForm<T> {
     /// `begin WANT NAME FLAGS =V`: an open is begun, and not run to its end.

@@ -12,7 +12,7 @@ use ob_parts::split_at;
 /// script is over.
 ///
 /// A line ends at its LF, or at the script's end. The form is none where the line is no script line,
-/// as one of more than 262,144 bytes. Source: this profile.
+/// as one of more than 262,144 bytes.
 pub fn read_line(script: &[u8]) -> Option<(Option<Form<&[u8]>>, &[u8])>
     // The first line is of this form, and the rest follows it.
     ensures found { IfSome result (λ read.
@@ -29,7 +29,7 @@ pub fn read_line(script: &[u8]) -> Option<(Option<Form<&[u8]>>, &[u8])>
 }
 
 /// The first line of a text, without its LF, and the text after it; none where the text is empty. A line ends at its
-/// LF, or at the text's end. Source: this profile.
+/// LF, or at the text's end.
 pub fn first_line(bytes: &[u8]) -> Option<(&[u8], &[u8])>
     ensures found { IfSome result (λ x. lines_of bytes.now ≡ x.0.now ∷ lines_of x.1.now) }
     ensures cut { IfSome result (λ x. IsFirstLine bytes.now x.0.now x.1.now) }
@@ -49,8 +49,8 @@ pub fn first_line(bytes: &[u8]) -> Option<(&[u8], &[u8])>
 }
 
 /// Each script has a reading: forms of all its lines. [`scripts_have_one_reading`] says that there is no
-/// other. The call reads the script line by line and answers nothing; a caller makes it to have the fact.
-/// Where a contract says what holds for each reading of a script, it says it of this one.
+/// other. The call reads the script line by line and returns nothing; a caller makes it to have the fact.
+/// A contract that says a fact of each reading of a script says it of this one.
 pub fn every_script_has_a_reading(script: &[u8])
     ensures { HasReading script.now }
 {

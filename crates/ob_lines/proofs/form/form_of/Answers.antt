@@ -1,4 +1,4 @@
--- A line that is neither idle nor a `stat` nor asks for something has no form.
+-- A line that is neither idle, nor `stat`, nor a line of a process has no form.
 use Rattle.ob_parts.proofs.Cuts.{IfNone-map}
 use Rattle.ob_parts.proofs.Readings.{told_apart}
 use Rattle.ob_lines.proofs.LineForms.{no_form}

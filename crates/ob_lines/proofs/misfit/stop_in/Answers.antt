@@ -1,5 +1,4 @@
 -- A word with no sorts follows the process variable; or the line has all parts of its word's sorts, and is a script line.
-use Rattle.std.proofs.Common.{IfNone}
 use Rattle.ob_lines.proofs.Misfitted.{has_form, no_sorts_alone, no_sorts_cut}
 use Rattle.ob_lines.proofs.misfit.stop_in.Goals as goal
 

@@ -1,4 +1,4 @@
--- What begins as a `begin` and goes on otherwise is none of the three.
+-- Bytes that begin with `begin ` and no operands of it after that are none of the three.
 use Rattle.ob_lines.proofs.LineForms.{begin_alone}
 use Rattle.ob_lines.proofs.pending.pending_of.Goals as goal
 

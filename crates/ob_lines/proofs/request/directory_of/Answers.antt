@@ -1,4 +1,4 @@
--- Behind the place, of which there is one reading, the rest is missing.
+-- After the place, which has one reading, the rest is missing.
 use Rattle.ob_parts.specs.Parts.{IsFlagsAndVariable}
 use Rattle.ob_parts.proofs.Readings.{moved, place_alike}
 use Rattle.ob_lines.proofs.request.directory_of.Goals as goal

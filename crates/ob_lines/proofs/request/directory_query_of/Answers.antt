@@ -1,4 +1,4 @@
--- Behind parts of which there is one reading the next one is missing.
+-- After parts that have one reading the next one is missing.
 use Rattle.std.proofs.Common.{◌∙◌}
 use Rattle.ob_parts.specs.Parts.{BeginsWithRoom}
 use Rattle.ob_parts.proofs.Readings.{moved}

@@ -1,4 +1,4 @@
--- Behind the inheritance, of which there is one reading, no process variable is set.
+-- After the inheritance, which has one reading, no process variable is set.
 use Rattle.ob_parts.specs.Parts.{SetsProcess}
 use Rattle.ob_parts.proofs.Readings.{moved}
 use Rattle.ob_parts.proofs.Processed.{inherit_alike}

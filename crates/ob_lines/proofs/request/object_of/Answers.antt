@@ -1,4 +1,4 @@
--- Behind the kind, of which there is one reading, the rest is missing.
+-- After the kind, which has one reading, the rest is missing.
 use Rattle.ob_parts.specs.Parts.{IsPlaceFlagsTextAndVariable}
 use Rattle.ob_parts.proofs.Readings.{moved, kind_alike}
 use Rattle.ob_lines.proofs.request.object_of.Goals as goal

@@ -1,4 +1,4 @@
--- What is no `exit` and no verb with operands is no request.
+-- Bytes that are neither `exit` nor a verb with operands are no request.
 use Rattle.ob_parts.proofs.Cuts.{IfNone-map}
 use Rattle.ob_parts.proofs.Readings.{told_apart}
 use Rattle.ob_lines.proofs.LineForms.{no_exit}

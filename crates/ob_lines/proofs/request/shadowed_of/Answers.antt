@@ -1,4 +1,4 @@
--- Behind parts of which there is one reading the next one is missing.
+-- After parts that have one reading the next one is missing.
 use Rattle.ob_parts.specs.Parts.{BeginsWithPlace, IsFlagsAndVariable}
 use Rattle.ob_parts.proofs.Readings.{moved, place_alike}
 use Rattle.ob_parts.proofs.Processed.{handle_first_alike}

@@ -1,4 +1,4 @@
--- A verb and its operands are cut behind the verb.
+-- A verb and its operands are cut after the verb.
 use Rattle.std.proofs.Common.{sym, ◌∙◌}
 use Rattle.ob_lines.specs.Grammar.{verb_of, request_seen}
 use Rattle.ob_parts.proofs.Cuts.{IfNone-map, IfSome-join}
