@@ -10,39 +10,20 @@ use Rattle.ob_model.specs.declared.reply.Event.TheVariants.{Start}
 use Rattle.ob_model.specs.declared.reply.Reply.{Reply}
 use Rattle.ob_model.specs.Step.{Step}
 use Rattle.ob_runner.specs.Completes.{Made, Leads, Completes, MayFalter, Falters}
-use Rattle.ob_runner.proofs.Replies.{IsReply, is_open, start_replies}
+use Rattle.ob_runner.proofs.Replies.{IsReply, start_replies}
+use Rattle.ob_runner.specs.Opens.{is_open}
 use Rattle.ob_host.specs.declared.kind.Kind.{Kind}
 use Rattle.ob_c_state.specs.Machine.{Space, host}
-use Rattle.ob_c_state.specs.Calls.{may_wait, Ends, Runs, Wants}
-
--- the commands that may wait are the opens
-are_opens : {K : Type 0} (command : Command K) → is_open command ≡ may_wait command
-are_opens (CreateDirectory where_to attrs) = refl
-are_opens (CreateShadowed where_to attrs shadow) = refl
-are_opens (CreateLink where_to attrs target) = refl
-are_opens (CreateObject where_to attrs kind args) = refl
-are_opens (OpenDirectory root name attrs) = refl
-are_opens (OpenLink root name attrs) = refl
-are_opens (OpenObject root name attrs want) = refl
-are_opens (Close handle) = refl
-are_opens (QueryLink handle) = refl
-are_opens (QueryName handle) = refl
-are_opens (QueryDirectory handle context room single restart) = refl
-are_opens (Duplicate handle to inherit) = refl
-are_opens (MakeTemporary handle) = refl
-are_opens (MakePermanent handle) = refl
-are_opens (SetDeviceMap handle) = refl
-are_opens (NewProcess inherit) = refl
-are_opens ExitProcess = refl
+use Rattle.ob_c_state.specs.Calls.{Ends, Runs, Wants}
 
 -- no step of another is answered with a ticket
-no_ticket : (n p : ℕ) (command : Command Kind) (s t : Space) → may_wait command ≡ false → Step host s (Start p command) (Ticket n) t → ⊥
-no_ticket n p command s t one made = go (start_replies host s t (Ticket n) p command (are_opens command ∙ one) made)
+no_ticket : (n p : ℕ) (command : Command Kind) (s t : Space) → is_open command ≡ false → Step host s (Start p command) (Ticket n) t → ⊥
+no_ticket n p command s t one made = go (start_replies host s t (Ticket n) p command one made)
   where
     go : IsReply (Ticket n) → ⊥
     go (reply, is) = let apart : Ticket n ≡ Done reply = is in cc
 
-module _ (p : ℕ) (command : Command Kind) (one : may_wait command ≡ false) where
+module _ (p : ℕ) (command : Command Kind) (one : is_open command ≡ false) where
   -- what completes it is one step
   one_step : (steps : List (Made Kind)) (s t : Space) (reply : Reply) → Completes host (Start p command) steps s reply t → Step host s (Start p command) (Done reply) t
   one_step [] s t reply h = absurd h
@@ -61,20 +42,20 @@ module _ (p : ℕ) (command : Command Kind) (one : may_wait command ≡ false) w
       absurd (no_ticket h.0 p command s h.1 one (subst (λ (answer : Answer). Step host s (Start p command) answer h.1) h.3 made))
 
 -- a command is run as its kind says
-runs_as : (b : Bool) (p : ℕ) (command : Command Kind) → may_wait command ≡ b → (steps : List (Made Kind)) (s t : Space) (reply : Reply) → Completes host (Start p command) steps s reply t
+runs_as : (b : Bool) (p : ℕ) (command : Command Kind) → is_open command ≡ b → (steps : List (Made Kind)) (s t : Space) (reply : Reply) → Completes host (Start p command) steps s reply t
     → Runs p command b s reply t
 runs_as true p command e steps s t reply h = (steps, h)
 runs_as false p command e steps s t reply h = one_step p command e steps s t reply h
 
-wants_as : (b : Bool) (p : ℕ) (command : Command Kind) → may_wait command ≡ b → (steps : List (Made Kind)) (s t : Space) → Falters host (Start p command) steps s t → Wants p command b s t
+wants_as : (b : Bool) (p : ℕ) (command : Command Kind) → is_open command ≡ b → (steps : List (Made Kind)) (s t : Space) → Falters host (Start p command) steps s t → Wants p command b s t
 wants_as true p command e steps s t h = (steps, h)
 wants_as false p command e steps s t h = no_step p command e steps s t h
 
 -- a command was run to its reply, from the state that the struct had
 pub ends_in_reply : (p : ℕ) (command : Command Kind) (s was t : Space) (reply : Reply) → s ≡ was → (steps : List (Made Kind)) × Completes host (Start p command) steps s reply t
     → Ends p command was (Ok reply) t
-ends_in_reply p command s was t reply e h = subst (λ (u : Space). Ends p command u (Ok reply) t) e (runs_as (may_wait command) p command refl h.0 s t reply h.1)
+ends_in_reply p command s was t reply e h = subst (λ (u : Space). Ends p command u (Ok reply) t) e (runs_as (is_open command) p command refl h.0 s t reply h.1)
 
 -- or it found no memory
 pub ends_in_want : (p : ℕ) (command : Command Kind) (s was t : Space) → s ≡ was → (steps : List (Made Kind)) × Falters host (Start p command) steps s t → Ends p command was (Err NoMemory) t
-ends_in_want p command s was t e h = subst (λ (u : Space). Ends p command u (Err NoMemory) t) e (refl, inl (wants_as (may_wait command) p command refl h.0 s t h.1))
+ends_in_want p command s was t e h = subst (λ (u : Space). Ends p command u (Err NoMemory) t) e (refl, inl (wants_as (is_open command) p command refl h.0 s t h.1))

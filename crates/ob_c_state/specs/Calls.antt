@@ -17,6 +17,7 @@ use Rattle.ob_model.specs.declared.reply.Event.TheVariants.{Start}
 use Rattle.ob_model.specs.declared.reply.Reply.{Reply}
 use Rattle.ob_model.specs.Step.{Step}
 use Rattle.ob_runner.specs.Completes.{Made, Completes, MayFalter, Falters}
+use Rattle.ob_runner.specs.Opens.{is_open}
 use Rattle.ob_host.specs.Deletions.{unused}
 use Rattle.ob_host.specs.declared.kind.Kind.{Kind}
 use Rattle.ob_c_state.specs.Machine.{Space, host}
@@ -56,26 +57,6 @@ HasBytes (SetDeviceMap handle) = ⊥
 HasBytes (NewProcess inherit) = ⊥
 HasBytes ExitProcess = ⊥
 
--- a command is an open, which may wait for parses
-abbrev pub may_wait : {K : Type 0} → Command K → Bool
-may_wait (CreateDirectory where_to attrs) = false
-may_wait (CreateShadowed where_to attrs shadow) = false
-may_wait (CreateLink where_to attrs target) = false
-may_wait (CreateObject where_to attrs kind args) = false
-may_wait (OpenDirectory root name attrs) = true
-may_wait (OpenLink root name attrs) = true
-may_wait (OpenObject root name attrs want) = true
-may_wait (Close handle) = false
-may_wait (QueryLink handle) = false
-may_wait (QueryName handle) = false
-may_wait (QueryDirectory handle context room single restart) = false
-may_wait (Duplicate handle to inherit) = false
-may_wait (MakeTemporary handle) = false
-may_wait (MakePermanent handle) = false
-may_wait (SetDeviceMap handle) = false
-may_wait (NewProcess inherit) = false
-may_wait ExitProcess = false
-
 -- A command of a process has this reply: an open by its steps, and any other by one.
 abbrev pub Runs : ℕ → Command Kind → (waits : Bool) → Space → Reply → Space → Type 0
 Runs p command true s reply t = (steps : List (Made Kind)) × Completes host (Start p command) steps s reply t
@@ -90,8 +71,8 @@ Wants p command false s t = (t ≡ s) × MayFalter host s (Start p command)
 -- A command of a process is run to its reply; or it is out of memory, in its steps, or for a copy of the bytes that it
 -- is handed in with, and then nothing has changed.
 abbrev pub Ends : ℕ → Command Kind → Space → Result Reply Status → Space → Type 0
-Ends p command s (Ok reply) t = Runs p command (may_wait command) s reply t
-Ends p command s (Err status) t = (status ≡ NoMemory) × (Wants p command (may_wait command) s t ⊎ (HasBytes command × (t ≡ s)))
+Ends p command s (Ok reply) t = Runs p command (is_open command) s reply t
+Ends p command s (Err status) t = (status ≡ NoMemory) × (Wants p command (is_open command) s t ⊎ (HasBytes command × (t ≡ s)))
 
 -- the same in a namespace that may be closed, which refuses it and stays closed
 abbrev pub Calls : ℕ → Command Kind → Option Space → Result Reply Status → Option Space → Type 0

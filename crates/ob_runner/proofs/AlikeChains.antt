@@ -25,7 +25,7 @@ use Rattle.ob_model.proofs.AlikeSteps.{steps_stay, steps_lead, step_holds}
 use Rattle.ob_model.proofs.Steps.{step_sound}
 use Rattle.ob_runner.specs.Completes.{Made, Leads, HasRun, Completes, FindsMemory, FindMemory}
 use Rattle.ob_runner.proofs.Fewer.{WaitsFor, waits_for, start_begins, step_begins}
-use Rattle.ob_runner.proofs.Replies.{is_open}
+use Rattle.ob_runner.specs.Opens.{is_open}
 
 -- nothing is closed
 abbrev none : ℕ → ℕ → Type 0

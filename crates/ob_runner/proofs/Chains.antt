@@ -16,7 +16,7 @@ use Rattle.ob_model.specs.Step.{Step}
 use Rattle.ob_model.proofs.Steps.{step_sound}
 use Rattle.ob_runner.specs.Completes.{Made, step_of, Leads, HasRun, Completes, GivesUp, Falters}
 use Rattle.ob_runner.proofs.Fewer.{start_waits}
-use Rattle.ob_runner.proofs.Replies.{is_open}
+use Rattle.ob_runner.specs.Opens.{is_open}
 
 module _ {K T F I : Type 0} (g : Procedures K T F I) where
   -- a sound state stays sound

@@ -39,7 +39,8 @@ use Rattle.ob_model.specs.State.{State, object_of, is_live, is_store_full, held_
 use Rattle.ob_base.specs.Handle.{key_of}
 use Rattle.ob_model.proofs.Settled.{alive_from_pin, object_of-settle, settle-settle}
 use Rattle.ob_model.proofs.Vacant.{IsParsing, IsUsableEnd, usable_end}
-use Rattle.ob_runner.proofs.Replies.{IsReply, is_open, start_replies}
+use Rattle.ob_runner.proofs.Replies.{IsReply, start_replies}
+use Rattle.ob_runner.specs.Opens.{is_open}
 use Rattle.ob_model.specs.Step.{WithRoot, OpensName, Step}
 use Rattle.ob_model.specs.Types.{is_wanted_at}
 use Rattle.ob_opens.proofs.BegunAgain.{last_found}

@@ -11,7 +11,8 @@ use Rattle.ob_model.specs.State.{State}
 use Rattle.ob_model.specs.Step.{Step}
 use Rattle.ob_space.specs.Early.{TakesNoMemory}
 use Rattle.ob_runner.specs.Completes.{Made, Falters}
-use Rattle.ob_runner.proofs.Replies.{IsReply, is_open, start_replies}
+use Rattle.ob_runner.proofs.Replies.{IsReply, start_replies}
+use Rattle.ob_runner.specs.Opens.{is_open}
 
 no_open : {K : Type 0} (command : Command K) → TakesNoMemory command → is_open command ≡ false
 no_open (CreateDirectory where_to attrs) takes = absurd takes

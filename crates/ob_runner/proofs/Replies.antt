@@ -36,30 +36,11 @@ use Rattle.ob_model.specs.Creates.{Making, MakesDirectory, MakesLink, MakesObjec
 use Rattle.ob_model.specs.Naming.{path_text, TellsName, TellsTarget}
 use Rattle.ob_model.specs.Enumeration.{enumerated, context_used, page_answer}
 use Rattle.ob_model.specs.Processes.{values_in, is_crowded, begun, ended}
+use Rattle.ob_runner.specs.Opens.{is_open}
 use Rattle.ob_model.specs.Step.{WithHandle, WithRoot, shadow_refusals, WithShadow, CreatesIn, CreatesAt, Turns, page_refusals, TellsPage, Step}
 
 abbrev pub IsReply : Answer → Type 0
 IsReply answer = (reply : Reply) × (answer ≡ Done reply)
-
--- a command is an open
-abbrev pub is_open : {K : Type 0} → Command K → Bool
-is_open (CreateDirectory where_to attrs) = false
-is_open (CreateShadowed where_to attrs shadow) = false
-is_open (CreateLink where_to attrs target) = false
-is_open (CreateObject where_to attrs kind args) = false
-is_open (OpenDirectory root name attrs) = true
-is_open (OpenLink root name attrs) = true
-is_open (OpenObject root name attrs want) = true
-is_open (Close handle) = false
-is_open (QueryLink handle) = false
-is_open (QueryName handle) = false
-is_open (QueryDirectory handle context room single restart) = false
-is_open (Duplicate handle to inherit) = false
-is_open (MakeTemporary handle) = false
-is_open (MakePermanent handle) = false
-is_open (SetDeviceMap handle) = false
-is_open (NewProcess inherit) = false
-is_open ExitProcess = false
 
 module _ {K T F I : Type 0} (s t : State K T F I) (answer : Answer) where
   refused_reply : (status : Status) → IsRefused s status answer t → IsReply answer

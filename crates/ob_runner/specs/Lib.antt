@@ -3,3 +3,4 @@ pub use Rattle.ob_opens.specs.Waiting
 pub mod Kept
 pub mod Begun
 pub mod Repeated
+pub mod Opens

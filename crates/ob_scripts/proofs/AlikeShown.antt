@@ -25,7 +25,7 @@ use Rattle.ob_runner.specs.Completes.{HasRun, Completes, FindMemory, FindsMemory
 use Rattle.ob_runner.proofs.AlikeChains.{GoOn, completes_alike, resume_alike, abandon_alike, open_alike}
 use Rattle.ob_runner.proofs.Chains.{completes_sound}
 use Rattle.ob_runner.proofs.Fewer.{WaitsFor}
-use Rattle.ob_runner.proofs.Replies.{is_open}
+use Rattle.ob_runner.specs.Opens.{is_open}
 use Rattle.ob_standard.specs.Standard.{StandardKind, Standard, standard, IsFresh}
 use Rattle.ob_lines.specs.declared.form.Form.TheVariants.{Nothing, Stat, Asks, Waits}
 use Rattle.ob_lines.specs.declared.pending.PendingForm.{PendingForm}
