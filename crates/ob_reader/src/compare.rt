@@ -1,10 +1,11 @@
 //! The comparison of what a line says with an answer.
 
 ghost use Rattle.std.specs.Prelude.{◌≡◌, ◌↔◌, IsTrue};
+ghost use Rattle.ob_model.specs.declared.entries.Listed.{Listed};
 ghost use Rattle.ob_reader.specs.Reading.{gift_of, said_of};
 
 use crate::said::{Gift, Numbers, Said};
-use ob_model::{Answer, Given, Handles};
+use ob_model::{Answer, Entries, Given, Handles, Listed};
 
 /// Whether a line says this of an answer: the number of its status, and all that is given, each entry and each value in its
 /// place. Takes no memory. (this profile)
@@ -37,10 +38,23 @@ fn is_gift(gift: &Gift, given: &Given) -> bool
                 entries: others,
                 context: stamp,
             },
-        ) => context == stamp && entries == others,
+        ) => context == stamp && is_same_page(entries, others),
         _ => false,
     }
 }
+
+// Whether these are the same entries of a page, in the same order.
+fn is_same_page(a: &Entries, b: &Entries) -> bool
+    ensures { IsTrue result ↔ a.now ≡ b.now }
+{
+    listed_are_one();
+    a == b
+}
+
+// Equal entries of a page are one.
+fn listed_are_one()
+    ensures { (a b : Listed) → IsTrue (⟦<Listed as PartialEq>⟧.eq a b) ↔ a ≡ b }
+{}
 
 // Whether these are the numbers of the handle values.
 fn has_numbers(numbers: &Numbers, handles: &Handles) -> bool
