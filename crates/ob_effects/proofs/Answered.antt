@@ -37,16 +37,10 @@ use Rattle.ob_requests.specs.Variables.{Variables, handed_on, is_among, with_pro
 use Rattle.ob_requests.specs.Tables.{IsKept}
 use Rattle.ob_requests.specs.Commands.{applied, changed, given_process, with_child}
 use Rattle.ob_standard_core.specs.Machine.{Space}
-use Rattle.ob_effects.specs.Effects.{IsAsked, IsAnswered, IsUnanswered}
+use Rattle.ob_effects.specs.Effects.{IsAsked, IsAnswered}
+use Rattle.ob_effects.specs.Waiting.{Steps}
 
--- a request is asked with variables that are the same
-pub asked_with : (r : Request (List ℕ)) (p : ℕ) (variables mid : Variables) (s s' : Space) (reply : Reply) → mid ≡ variables → IsAsked r p mid s reply s' → IsAsked r p variables s reply s'
-asked_with r p variables mid s s' reply same is = let P : Variables → Type 0 = λ x. IsAsked r p x s reply s' in subst P same is
-
-pub unanswered_with : (r : Request (List ℕ)) (p : ℕ) (variables mid : Variables) (s s' : Space) → mid ≡ variables → IsUnanswered r p mid s s' → IsUnanswered r p variables s s'
-unanswered_with r p variables mid s s' same is = let P : Variables → Type 0 = λ x. IsUnanswered r p x s s' in subst P same is
-
--- and leaves the variables that its change says
+-- a request that is asked leaves the variables that its change says
 pub answered : (r : Request (List ℕ)) (p : ℕ) (variables variables' : Variables) (s s' : Space) (reply : Reply) (ch : Change (List ℕ)) → ch ≡ change_of r → IsAsked r p variables s reply s'
     → variables' ≡ changed ch p reply variables → IsAnswered r p variables s reply variables' s'
 answered r p variables variables' s s' reply ch is asked left = (asked, left ∙ ap (λ x. changed x p reply variables) is)
@@ -56,26 +50,6 @@ pub asks_seen : (found : Option (Form (Bor (List ℕ)))) (form : Form (Bor (List
     → found ≡ Some form → form ≡ Asks process r → found_seen found ≡ Some (Asks process.now (request_seen r))
 asks_seen found form process r e f =
     let P : Form (Bor (List ℕ)) → Type 0 = λ x. found_seen found ≡ Some (form_seen x) in subst P f (ap found_seen e)
-
--- a request that sets a process variable is one for a child
-pub begins : (r : Request (List ℕ)) (variable : List ℕ) (inherit : Bool) → change.SetsProcess variable inherit ≡ change_of r → r ≡ request.NewProcess inherit variable
-begins (request.CreateDirectory place attrs w) variable inherit e = cc
-begins (request.CreateShadowed shadow place attrs w) variable inherit e = cc
-begins (request.CreateLink place attrs target w) variable inherit e = cc
-begins (request.CreateObject kind place attrs args w) variable inherit e = cc
-begins (request.OpenDirectory name attrs w) variable inherit e = cc
-begins (request.OpenLink name attrs w) variable inherit e = cc
-begins (request.OpenObject want name attrs w) variable inherit e = cc
-begins (request.Close handle) variable inherit e = cc
-begins (request.QueryLink handle) variable inherit e = cc
-begins (request.QueryName handle) variable inherit e = cc
-begins (request.QueryDirectory handle room mode) variable inherit e = cc
-begins (request.Duplicate handle to own w) variable inherit e = cc
-begins (request.MakeTemporary handle) variable inherit e = cc
-begins (request.MakePermanent handle) variable inherit e = cc
-begins (request.SetDeviceMap handle) variable inherit e = cc
-begins (request.NewProcess own child) variable inherit e = cc
-begins request.ExitProcess variable inherit e = cc
 
 -- ---- a child
 
@@ -104,16 +78,12 @@ child_given s t p inherit reply n hs step given = go (first_refusal (child_refus
         let it : reply ≡ record { status = status; given = Nothing } = cc in
         let none : Nothing ≡ Process n hs = sym (ap (λ (r : Reply). r.given) it) ∙ given in cc
 
--- so it has where a request asks for it
-pub child_told : (r : Request (List ℕ)) (p : ℕ) (variables : Variables) (s t : Space) (reply : Reply) (variable : List ℕ) (inherit : Bool) (n : ℕ) (hs : List ℕ) → IsSound s → r ≡ request.NewProcess inherit variable
-    → IsAsked r p variables s reply t → reply.given ≡ Process n hs → (n ≡ s.next_process) × (hs ≡ values_in t n)
-child_told r p variables s t reply variable inherit n hs sound is asked given =
-    let P : Request (List ℕ) → Type 0 = λ x. IsAsked x p variables s reply t in go (subst P is asked)
-  where
-    go : IsAsked (request.NewProcess inherit variable) p variables s reply t → (n ≡ s.next_process) × (hs ≡ values_in t n)
-    go (c, steps, spelled, chain) =
-        let Q : Command StandardKind → Type 0 = λ x. Completes standard (Start p x) steps s reply t in
-        child_given s t p inherit reply n hs (completes_at_once standard p (command.NewProcess inherit) steps s t reply sound refl (subst Q spelled chain)) given
+-- so it has where the command that makes it is run
+pub child_told : (c : Command StandardKind) (p : ℕ) (steps : Steps) (s t : Space) (reply : Reply) (inherit : Bool) (n : ℕ) (hs : List ℕ) → IsSound s → c ≡ command.NewProcess inherit
+    → Completes standard (Start p c) steps s reply t → reply.given ≡ Process n hs → (n ≡ s.next_process) × (hs ≡ values_in t n)
+child_told c p steps s t reply inherit n hs sound is chain given =
+    let P : Command StandardKind → Type 0 = λ x. Completes standard (Start p x) steps s reply t in
+    child_given s t p inherit reply n hs (completes_at_once standard p (command.NewProcess inherit) steps s t reply sound refl (subst P is chain)) given
 
 -- a value is among those of a process where it holds a handle of that value
 holds_among : (handles : List Held) (n v : ℕ) → is_some (find (λ h. h.process == n && h.value == v) handles) ≡ is_among (map (λ h. h.value) (filter (λ h. h.process == n) handles)) v
