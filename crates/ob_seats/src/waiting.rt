@@ -50,26 +50,27 @@ pub(crate) fn carry_on<C: Callers>(
             name,
             attrs,
             variable,
-        } => match variables.ticket_of(process, variable) {
-            0 => begin(
-                callers,
-                variables,
-                waits,
-                pass,
-                process,
-                (want, name, attrs),
-                variable,
-            ),
-            _ => (pass, Ok(())),
-        },
-        PendingForm::End { variable } => match variables.ticket_of(process, variable) {
-            0 => (pass, Ok(())),
-            ticket => end(callers, variables, waits, pass, process, variable, ticket),
-        },
-        PendingForm::Drop { variable } => match variables.ticket_of(process, variable) {
-            0 => (pass, Ok(())),
-            ticket => give_up(callers, variables, waits, pass, process, variable, ticket),
-        },
+        } => {
+            if variables.ticket_of(process, variable) != 0 {
+                return (pass, Ok(()));
+            }
+            let asked = (want, name, attrs);
+            begin(callers, variables, waits, pass, process, asked, variable)
+        }
+        PendingForm::End { variable } => {
+            let ticket = variables.ticket_of(process, variable);
+            if ticket == 0 {
+                return (pass, Ok(()));
+            }
+            end(callers, variables, waits, pass, process, variable, ticket)
+        }
+        PendingForm::Drop { variable } => {
+            let ticket = variables.ticket_of(process, variable);
+            if ticket == 0 {
+                return (pass, Ok(()));
+            }
+            give_up(callers, variables, waits, pass, process, variable, ticket)
+        }
     }
 }
 
