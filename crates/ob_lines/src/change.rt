@@ -1,11 +1,5 @@
 //! The variables that the reply to a request changes.
 
-ghost use Rattle.std.specs.Prelude.{◌≡◌};
-ghost use Rattle.ob_lines.specs.Grammar.{request_seen};
-ghost use Rattle.ob_lines.specs.Changes.{change_of, change_seen};
-
-use crate::request::Request;
-
 /// Which variables of a script the reply to a request changes. `T` is how bytes are held: as slices of the
 /// line, or, in contracts, as lists.
 #[derive(Clone, Copy, PartialEq, Eq, Debug)]
@@ -39,36 +33,4 @@ pub enum Change<T> {
         /// Whether the child inherits.
         inherit: bool,
     },
-}
-
-/// The variables that the reply to a request changes. A `dup` with inheritance and one without change the
-/// same. Source: this profile.
-pub fn change_of<'a>(request: &Request<&'a [u8]>) -> Change<&'a [u8]>
-    ensures { change_seen result ≡ change_of (request_seen request.now) }
-{
-    match *request {
-        Request::CreateDirectory { variable, .. } => Change::Sets(variable),
-        Request::CreateShadowed { variable, .. } => Change::Sets(variable),
-        Request::CreateLink { variable, .. } => Change::Sets(variable),
-        Request::CreateObject { variable, .. } => Change::Sets(variable),
-        Request::OpenDirectory { variable, .. } => Change::Sets(variable),
-        Request::OpenLink { variable, .. } => Change::Sets(variable),
-        Request::OpenObject { variable, .. } => Change::Sets(variable),
-        Request::Close { handle } => Change::GivesUp(handle.variable),
-        Request::QueryLink { .. } => Change::Nothing,
-        Request::QueryName { .. } => Change::Nothing,
-        Request::QueryDirectory { handle, .. } => Change::TurnsPage(handle.variable),
-        Request::Duplicate { to, variable, .. } => Change::SetsFor {
-            process: to,
-            variable,
-        },
-        Request::MakeTemporary { .. } => Change::Nothing,
-        Request::MakePermanent { .. } => Change::Nothing,
-        Request::SetDeviceMap { .. } => Change::Nothing,
-        Request::NewProcess { inherit, child } => {
-            let process = child;
-            Change::SetsProcess { process, inherit }
-        }
-        Request::ExitProcess => Change::GivesAllUp,
-    }
 }

@@ -14,7 +14,7 @@ mod request;
 mod script;
 mod verb;
 
-pub use change::{Change, change_of};
+pub use change::Change;
 pub use form::{Form, LONGEST_LINE, form_of, lines_have_one_form};
 pub use misfit::{Expected, Misfit, lines_have_one_misfit, misfit_of};
 pub use ob_parts::{

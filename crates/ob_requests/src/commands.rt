@@ -14,7 +14,9 @@ use either::Either;
 use ob_base::{Handle, Proc};
 use ob_device::DeviceKind;
 use ob_key::KeyKind;
-use ob_lines::{Change, HandleForm, KindForm, NameForm, Offset, PlaceForm, Request, decode, offset_value};
+use ob_lines::{
+    Change, HandleForm, KindForm, NameForm, Offset, PlaceForm, Request, decode, offset_value,
+};
 use ob_model::{Bytes, Command, Place};
 use ob_plain::PlainKind;
 use ob_standard::StandardKind;

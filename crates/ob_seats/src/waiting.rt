@@ -62,18 +62,14 @@ pub(crate) fn carry_on<C: Callers>(
             if ticket == 0 {
                 return (pass, Ok(()));
             }
-            end(
-                callers, variables, waits, pass, process, variable, ticket,
-            )
+            end(callers, variables, waits, pass, process, variable, ticket)
         }
         PendingForm::Drop { variable } => {
             let ticket = variables.ticket_of(process, variable);
             if ticket == 0 {
                 return (pass, Ok(()));
             }
-            give_up(
-                callers, variables, waits, pass, process, variable, ticket,
-            )
+            give_up(callers, variables, waits, pass, process, variable, ticket)
         }
     }
 }

@@ -37,7 +37,7 @@ returns-then-ticket_of-ne0-clause-played g c =
       [],
       adds_none _,
       subst (λ p. IsWaitPlayed (pending_seen p) c.args.process was [] was) (sym c.in-Begin.is)
-      (inl (codes "BUSY", ap (λ b. if b then Some (codes "BUSY") else None) (waits was c.args.process c.in-Begin.variable.now (λ none. c.if-ticket_of-ne0.true (c.ticket_of.ensures ∙ none))), refl, refl)),
+          (inl (codes "BUSY", ap (λ b. if b then Some (codes "BUSY") else None) (waits was c.args.process c.in-Begin.variable.now (λ none. c.if-ticket_of-ne0.true (c.ticket_of.ensures ∙ none))), refl, refl)),
     )
 
 pub returns-then-ticket-eq0-clause-played : goal.returns-then-ticket-eq0-clause-played
@@ -46,7 +46,7 @@ returns-then-ticket-eq0-clause-played g c =
       [],
       adds_none _,
       subst (λ p. IsWaitPlayed (pending_seen p) c.args.process was [] was) (sym c.in-End.is)
-      (inl (codes "NO PENDING", ap (λ b. if b then None else Some (codes "NO PENDING")) (waits_not was c.args.process c.in-End.variable.now (sym c.ticket_of-ticket.ensures ∙ c.if-ticket-eq0.true)), refl, refl)),
+          (inl (codes "NO PENDING", ap (λ b. if b then None else Some (codes "NO PENDING")) (waits_not was c.args.process c.in-End.variable.now (sym c.ticket_of-ticket.ensures ∙ c.if-ticket-eq0.true)), refl, refl)),
     )
 
 pub returns-else-ticket-eq0-clause-played : goal.returns-else-ticket-eq0-clause-played
@@ -73,5 +73,5 @@ returns-then-ticket-eq0-2-clause-played g c =
       [],
       adds_none _,
       subst (λ p. IsWaitPlayed (pending_seen p) c.args.process was [] was) (sym c.in-Drop.is)
-      (inl (codes "NO PENDING", ap (λ b. if b then None else Some (codes "NO PENDING")) (waits_not was c.args.process c.in-Drop.variable.now (sym c.ticket_of-ticket-in-Drop.ensures ∙ c.if-ticket-eq0-2.true)), refl, refl)),
+          (inl (codes "NO PENDING", ap (λ b. if b then None else Some (codes "NO PENDING")) (waits_not was c.args.process c.in-Drop.variable.now (sym c.ticket_of-ticket-in-Drop.ensures ∙ c.if-ticket-eq0-2.true)), refl, refl)),
     )
