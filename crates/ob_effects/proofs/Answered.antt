@@ -29,6 +29,7 @@ use Rattle.ob_lines.specs.declared.change.Change.TheVariants as change
 use Rattle.ob_lines.specs.declared.form.Form.{Form}
 use Rattle.ob_lines.specs.declared.form.Form.TheVariants.{Asks}
 use Rattle.ob_lines.specs.declared.request.Request.{Request}
+use Rattle.ob_lines.specs.declared.request.Request.TheVariants as request
 use Rattle.ob_lines.specs.Changes.{change_of, change_seen}
 use Rattle.ob_lines.specs.Script.{found_seen}
 use Rattle.ob_lines.specs.Grammar.{form_seen, request_seen}
